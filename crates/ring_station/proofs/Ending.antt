@@ -91,7 +91,7 @@ banks_shown {ran = ran} {new = new} ids left h = record {
       };
 }
 
-pub cache_shown : {W B R D ports turns : ℕ} {old ran new : CacheSide W B R D} {end : ThreadEnd} → cache_id new ≡ cache_id ran
+pub cache_shown : {ports turns : ℕ} {old ran new : CacheSide} {end : ThreadEnd} → cache_id new ≡ cache_id ran
     → LeavesCache ran new → CacheRan ports turns old ran end → CacheRan ports turns old new end
 cache_shown ids left h =
     let noted = ap length left.held in
@@ -186,8 +186,8 @@ have_run_on {old = old} {ran = ran} {new = new} number run resumed =
     }
 
 -- ports that ran to their end have done so where their station wasn't renewed, too
-pub comes_to_renewal : {W B R D : ℕ} {scripts : List (Vec Ask)} {old ran new : List Port} {lists : List (Vec Told)}
-    (cache cache' : CacheSide W B R D) (banks banks' : List BankSide) (fault : RenewFault) → HaveRun scripts old ran lists
+pub comes_to_renewal : {scripts : List (Vec Ask)} {old ran new : List Port} {lists : List (Vec Told)}
+    (cache cache' : CacheSide) (banks banks' : List BankSide) (fault : RenewFault) → HaveRun scripts old ran lists
     → IsRefused fault cache cache' ran new banks banks' → ComesToRenewal scripts old new (Renewal fault)
 comes_to_renewal {lists = lists} cache cache' banks banks' WornOut run refused = (lists, rw refused.2 run)
 comes_to_renewal {lists = lists} cache cache' banks banks' OutOfMemory run refused = (lists, rw refused.2 run)

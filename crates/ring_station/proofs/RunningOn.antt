@@ -84,7 +84,7 @@ count_is asks longest begin n some at more enough =
 
 -- ---- one run, of pieces that were cut
 
-pub hands_out_next : {W B R D begin asks : ℕ} {scripts pieces : List (Vec Ask)} {old new : Station W B R D} {segment : Segment}
+pub hands_out_next : {begin asks : ℕ} {scripts pieces : List (Vec Ask)} {old new : Station} {segment : Segment}
     → map (λ p. p.items) pieces ≡ map (λ s. piece_behind begin asks s.items) scripts → length scripts ≡ length old.ports.items
     → HaveRunOn pieces old.ports.items new.ports.items segment.lists.items
     → HandsOut old.cache new.cache segment.journal.items → HandsOutNext begin asks scripts old new segment
@@ -123,7 +123,7 @@ module _ (HasHeard : ℕ → Told → Type 0) where
 -- ---- the runs so far
 
 -- the pieces before this place were run, and their segments handed out and kept; each run kept to its turns
-pub record HasComeTo {W B R D : ℕ} (begin asks turns : ℕ) (scripts : List (Vec Ask)) (old new : Station W B R D)
+pub record HasComeTo (begin asks turns : ℕ) (scripts : List (Vec Ask)) (old new : Station)
     (kept : List Segment → Type 0) : Type 0
   where
     pub segments : List Segment
@@ -133,9 +133,9 @@ pub record HasComeTo {W B R D : ℕ} (begin asks turns : ℕ) (scripts : List (V
 
 -- ---- runs, one behind the other
 
-module _ {W B R D : ℕ} (turns asks : ℕ) (scripts : List (Vec Ask)) where
+module _ (turns asks : ℕ) (scripts : List (Vec Ask)) where
   -- one more
-  each_keeps_more : (begin place : ℕ) (first old new : Station W B R D) (segments : List Segment) (segment : Segment)
+  each_keeps_more : (begin place : ℕ) (first old new : Station) (segments : List Segment) (segment : Segment)
       → place ≡ begin + length segments * asks → EachKeepsTo turns begin asks scripts first old segments
       → HandsOutNext place asks scripts old new segment → KeepsTo turns old new
       → EachKeepsTo turns begin asks scripts first new (segments ++ segment ∷ [])
@@ -150,7 +150,7 @@ module _ {W B R D : ℕ} (turns asks : ℕ) (scripts : List (Vec Ask)) where
   )
 
   -- what they make of the station, and each port of the rest of its script
-  all_ran : (begin : ℕ) (old new : Station W B R D) (segments : List Segment) → EachKeepsTo turns begin asks scripts old new segments
+  all_ran : (begin : ℕ) (old new : Station) (segments : List Segment) → EachKeepsTo turns begin asks scripts old new segments
       → record {
         listed : All (λ segment. length segment.lists.items ≡ length old.ports.items) segments;
         handed_out : earlier_of new.cache ≡ earlier_of old.cache ++ journals_of segments;
@@ -184,7 +184,7 @@ module _ {W B R D : ℕ} (turns asks : ℕ) (scripts : List (Vec Ask)) where
       }
 
   -- behind the last one the journal is empty, and each port may offer again
-  settled : (begin : ℕ) (old new : Station W B R D) (segments : List Segment) → 0 < length segments
+  settled : (begin : ℕ) (old new : Station) (segments : List Segment) → 0 < length segments
       → length scripts ≡ length old.ports.items → EachKeepsTo turns begin asks scripts old new segments
       → (held_of new.cache ≡ []) × All (λ port. (offered_before port ≡ offered port) × (has_ended port ≡ false)) new.ports.items
   settled begin old new [] some count none = absurd (omega arith)
@@ -199,7 +199,7 @@ module _ {W B R D : ℕ} (turns asks : ℕ) (scripts : List (Vec Ask)) where
   settled begin old new (segment ∷ next ∷ more) some count h =
       settled (begin + asks) h.0 new (next ∷ more) (omega arith) (count ∙ sym h.2.ports) h.3
 
-  module _ {first new : Station W B R D} {all : List Segment → Type 0} where
+  module _ {first new : Station} {all : List Segment → Type 0} where
     -- behind one more there are no asks
     pub turns_to_the_end : {begin : ℕ} → 0 < asks → (begin ≡ 0) ⊎ (begin < longest_of scripts) → longest_of scripts ≤ begin + asks
         → HasComeTo (begin + asks) asks turns scripts first new all → RunsInTurns turns asks scripts first new all
@@ -231,7 +231,7 @@ module _ {W B R D : ℕ} (turns asks : ℕ) (scripts : List (Vec Ask)) where
 
 -- ---- one run more, and one that stops
 
-module _ {W B R D begin asks turns : ℕ} {scripts : List (Vec Ask)} {first old new : Station W B R D}
+module _ {begin asks turns : ℕ} {scripts : List (Vec Ask)} {first old new : Station}
     {before since all : List Segment → Type 0}
   where
     pub come_further : HasComeTo begin asks turns scripts first old before → RunsNext begin asks scripts old new since
@@ -255,7 +255,7 @@ module _ {W B R D begin asks turns : ℕ} {scripts : List (Vec Ask)} {first old 
     stops_there {fault} come stop within same still both =
         let segments = come.segments in
         let kept : all segments = rw append-nil at (both segments [] come.kept_is stop.kept_is) in
-        let stops = λ (lost : List Segment) (lost_is : MayBeLost fault lost) (renewed : Station W B R D)
+        let stops = λ (lost : List Segment) (lost_is : MayBeLost fault lost) (renewed : Station)
         (each : EachKeepsTo turns 0 asks scripts first renewed (segments ++ lost)) (since : KeepsTo turns renewed new)
         (ids : map port_id renewed.ports.items ≡ map port_id first.ports.items) (earlier : earlier_of new.cache ≡ earlier_of renewed.cache).
         let ran = all_ran turns asks scripts 0 first renewed (segments ++ lost) each in
@@ -291,7 +291,7 @@ module _ {W B R D begin asks turns : ℕ} {scripts : List (Vec Ask)} {first old 
         ]
 
 -- and why
-pub fails_there : {W B R D begin asks turns : ℕ} {scripts : List (Vec Ask)} {first old new : Station W B R D}
+pub fails_there : {begin asks turns : ℕ} {scripts : List (Vec Ask)} {first old new : Station}
     {before : List Segment → Type 0} {fault : SegmentFault} → HasComeTo begin asks turns scripts first old before
     → FailsNext begin asks turns scripts old new fault → FailsBehind turns asks scripts first new fault
 fails_there {asks = asks} {turns = turns} {scripts = scripts} {old = old} {new = new} {fault = fault} come fails = record {

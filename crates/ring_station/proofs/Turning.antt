@@ -128,12 +128,12 @@ counted (Ended port ∷ old) es few = omega (arith, counted old es few)
 counted (Step source event answer ∷ old) es few = counted old es few
 
 -- one entry at most is new in the journal, and ends a port or none
-pub record Notes {W B R D : ℕ} (old new : CacheSide W B R D) : Type 0 where
+pub record Notes (old new : CacheSide) : Type 0 where
   pub earlier : earlier_of new ≡ earlier_of old
   pub few : length (held_of new) ≤ length (held_of old) + 1
   pub ended : ended_in (held_of new) ≡ ended_in (held_of old) + cond (ends_at (held_of new) (length (held_of old))) 1 0
 
-notes : {W B R D : ℕ} (old new : CacheSide W B R D) (entries : List Entry) → earlier_of new ≡ earlier_of old
+notes : (old new : CacheSide) (entries : List Entry) → earlier_of new ≡ earlier_of old
     → held_of new ≡ held_of old ++ entries → length entries ≤ 1 → Notes old new
 notes old new entries earlier held few = record {
   earlier = earlier;
@@ -141,11 +141,11 @@ notes old new entries earlier held few = record {
   ended = rw held (counted (held_of old) entries few);
 }
 
-notes_nothing : {W B R D : ℕ} (old looked new : CacheSide W B R D) → OnlyLooks (state_of old) (state_of looked) → new ≡ looked
+notes_nothing : (old looked new : CacheSide) → OnlyLooks (state_of old) (state_of looked) → new ≡ looked
     → Notes old new
 notes_nothing old looked new looks same = rw same (notes old looked [] looks.earlier (looks.held ∙ sym (append-nil _)) none)
 
-step_notes : {W B R D : ℕ} (source : Source) (old looked new : CacheSide W B R D) (stepped : Stepped) (refusal : Option Stepped)
+step_notes : (source : Source) (old looked new : CacheSide) (stepped : Stepped) (refusal : Option Stepped)
     → OnlyLooks (state_of old) (state_of looked) → IfSome refusal (λ r. (stepped ≡ r) × (new ≡ looked))
     → IfNone refusal (StepMakes source (state_of looked) (state_of new) stepped) → Notes old new
 step_notes source old looked new stepped (Some r) looks refused makes = notes_nothing old looked new looks refused.1
@@ -153,14 +153,14 @@ step_notes source old looked new stepped None looks refused makes =
     let made = makes.makes in
     notes old new _ (made.earlier ∙ looks.earlier) (rw (← looks.held) made.held) (effect_few source (state_of looked) makes.looked)
 
-turn_notes : {W B R D : ℕ} (source : Source) (may : Bool) (old looked new : CacheSide W B R D) (result : Option Stepped)
+turn_notes : (source : Source) (may : Bool) (old looked new : CacheSide) (result : Option Stepped)
     → OnlyLooks (state_of old) (state_of looked) → IsTurn (SideSteps source) may looked new result → Notes old new
 turn_notes source false old looked new None looks h = notes_nothing old looked new looks h
 turn_notes source true old looked new (Some stepped) looks h =
     step_notes source old looked new stepped _ looks h.refused h.makes
 turn_notes source may old looked new result looks h = absurd h
 
-pub round_notes : {W B R D : ℕ} {may : Bool} {r s : Round} {old new : CacheSide W B R D} {stepped : Option Stepped}
+pub round_notes : {may : Bool} {r s : Round} {old new : CacheSide} {stepped : Option Stepped}
     → TurnsRound may r s old new stepped → Notes old new
 round_notes {may = may} {old = old} {new = new} {stepped = stepped} h =
     turn_notes _ may old h.looked new stepped h.looks h.turn
@@ -171,7 +171,7 @@ open_after true still still' first now now' o n h = omega arith
 open_after false still still' first now now' o n h = omega arith
 
 -- so many ports are still to end
-pub ended_more : {W B R D place still' first : ℕ} {old new : CacheSide W B R D} (ended : Bool) (still : ℕ) → Notes old new
+pub ended_more : {place still' first : ℕ} {old new : CacheSide} (ended : Bool) (still : ℕ) → Notes old new
     → place ≡ length (held_of old) → ended ≡ ends_at (held_of new) place → still' ≡ cond ended (still - 1) still
     → first ≤ ended_in (held_of old) + still → first ≤ ended_in (held_of new) + still'
 ended_more {still' = still'} {first = first} {old = old} {new = new} ended still h at is o before =
@@ -254,7 +254,7 @@ full_by : (faulted full : Bool) (limit count : ℕ) → (full ≡ true → limit
 full_by false true limit count h e = h refl
 full_by faulted full limit count h e = absurd (cc)
 
-full_step : {W B R D : ℕ} (source : Source) (old new : CacheSide W B R D) (refusal : Option Stepped)
+full_step : (source : Source) (old new : CacheSide) (refusal : Option Stepped)
     → refusal_of (state_of old) ≡ refusal → IfSome refusal (λ r. (JournalFull ≡ r) × (new ≡ old))
     → IfNone refusal (StepMakes source (state_of old) (state_of new) JournalFull) → journal_limit new ≤ length (held_of new)
 full_step source old new (Some r) is refused makes =
@@ -263,7 +263,7 @@ full_step source old new (Some r) is refused makes =
 full_step source old new None is refused makes =
     absurd (never_full _ (effect_of source _ makes.looked).fault makes.answer)
 
-pub full_turn : {W B R D : ℕ} (source : Source) (may : Bool) (old new : CacheSide W B R D) (result : Option Stepped)
+pub full_turn : (source : Source) (may : Bool) (old new : CacheSide) (result : Option Stepped)
     → IsTurn (SideSteps source) may old new result → result ≡ Some JournalFull → journal_limit new ≤ length (held_of new)
 full_turn source true old new (Some JournalFull) h e = full_step source old new _ refl h.refused h.makes
 full_turn source false old new (Some stepped) h e = absurd h

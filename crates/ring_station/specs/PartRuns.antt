@@ -56,13 +56,13 @@ ended_in (Ended port ∷ rest) = ended_in rest + 1
 ended_in (Step source event answer ∷ rest) = ended_in rest
 
 -- nothing is under way, and so many ports have said since the run began that they offer no more
-pub record IsServed {W B R D : ℕ} (ports : ℕ) (old new : CacheSide W B R D) : Type 0 where
+pub record IsServed (ports : ℕ) (old new : CacheSide) : Type 0 where
   pub rests : is_at_rest (cache_in new) ≡ true
   pub ended : ended_in (held_of old) + ports ≤ ended_in (held_of new)
 
 -- the thread of a cache side with so many ports and turns: at most one entry was noted in each that it began, and none was
 -- handed out. It takes no memory
-pub record CacheRan {W B R D : ℕ} (ports turns : ℕ) (old new : CacheSide W B R D) (end : ThreadEnd) : Type 0 where
+pub record CacheRan (ports turns : ℕ) (old new : CacheSide) (end : ThreadEnd) : Type 0 where
   pub same : cache_id new ≡ cache_id old
   pub earlier : earlier_of new ≡ earlier_of old
   pub noted : length (held_of new) ≤ length (held_of old) + end.turns

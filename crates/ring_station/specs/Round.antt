@@ -118,10 +118,10 @@ pub record Seeks (old new : Round) (before after : SideState) : Type 0 where
 
 -- a turn of the cache side: if it may make a step it goes on to the next source of which an item is known, and makes one there;
 -- and then the round goes on behind it
-pub record TurnsRound {W B R D : ℕ} (may : Bool) (old new : Round) (before after : CacheSide W B R D) (stepped : Option Stepped) : Type 0
+pub record TurnsRound (may : Bool) (old new : Round) (before after : CacheSide) (stepped : Option Stepped) : Type 0
   where
     pub at : Round
-    pub looked : CacheSide W B R D
+    pub looked : CacheSide
     pub looks : OnlyLooks (state_of before) (state_of looked)
     pub seeks : may ≡ true → Seeks old at (state_of before) (state_of looked)
     pub held : may ≡ false → (looked ≡ before) × (at ≡ old)
@@ -133,31 +133,31 @@ pub record TurnsRound {W B R D : ℕ} (may : Bool) (old new : Round) (before aft
 
 -- how the cache side's thread stands between two turns: its round, what its last turn came to, and how many turns the banks beside
 -- it have had
-pub record Standing (W B R D : ℕ) : Type 0 where
+pub record Standing : Type 0 where
   pub round : Round
   pub stepped : Option Stepped
   pub had : ℕ
-  pub cache : CacheSide W B R D
+  pub cache : CacheSide
 
 -- before its first turn
-abbrev pub standing_first : {W B R D : ℕ} → ℕ → ℕ → CacheSide W B R D → Standing W B R D
+abbrev pub standing_first : ℕ → ℕ → CacheSide → Standing
 standing_first ports banks cache = record { round = first_round ports banks; stepped = None; had = 0; cache = cache }
 
 -- a turn: the banks have theirs first, if it is due; then the gate is asked
-pub record TakesTurn {W B R D : ℕ} (CanAnswer : Bool → Type 0) (old new : Standing W B R D) : Type 0 where
+pub record TakesTurn (CanAnswer : Bool → Type 0) (old new : Standing) : Type 0 where
   pub may : Bool
   pub answered : CanAnswer may
   pub had : new.had ≡ (if are_banks_due old.round old.stepped then old.had + 1 else old.had)
   pub turns : TurnsRound may old.round new.round old.cache new.cache new.stepped
 
-abbrev pub TakesTurns : {W B R D : ℕ} → (Bool → Type 0) → ℕ → Standing W B R D → Standing W B R D → Type 0
+abbrev pub TakesTurns : (Bool → Type 0) → ℕ → Standing → Standing → Type 0
 TakesTurns CanAnswer zero first last = last ≡ first
-TakesTurns {W} {B} {R} {D} CanAnswer (suc turns) first last =
-    (before : Standing W B R D) × TakesTurns CanAnswer turns first before × TakesTurn CanAnswer before last
+TakesTurns CanAnswer (suc turns) first last =
+    (before : Standing) × TakesTurns CanAnswer turns first before × TakesTurn CanAnswer before last
 
 -- so many turns of the thread, in which the banks beside it had so many
-pub record HasGoneRound {W B R D : ℕ} (CanAnswer : Bool → Type 0) (ports banks turns had : ℕ) (old new : CacheSide W B R D) : Type 0 where
-  pub last : Standing W B R D
+pub record HasGoneRound (CanAnswer : Bool → Type 0) (ports banks turns had : ℕ) (old new : CacheSide) : Type 0 where
+  pub last : Standing
   pub taken : TakesTurns CanAnswer turns (standing_first ports banks old) last
   pub had_is : last.had ≡ had
   pub cache_is : last.cache ≡ new

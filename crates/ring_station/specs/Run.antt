@@ -58,13 +58,13 @@ abbrev pub HaveFinished : List BankSide → Type 0
 HaveFinished banks = (b : ℕ) (d : BankSide) → b < length banks → HasFinished (slice_index_or banks b d)
 
 -- a run of a station came to this: each thread did and ended as it is told, and an audit behind them found what is told
-pub record CameTo {W B R D : ℕ} (scripts : List (Vec Ask)) (turns : ℕ) (old new : Station W B R D) (run : Run) : Type 0 where
+pub record CameTo (scripts : List (Vec Ask)) (turns : ℕ) (old new : Station) (run : Run) : Type 0 where
   pub ports : PortsRan scripts turns old.ports.items new.ports.items run.lists.items run.ports.items
   pub cache : CacheRan (length old.ports.items) turns old.cache new.cache run.cache
   pub banks : BanksRan turns old.banks.items new.banks.items run.banks.items
   pub audited : IsAudited new.cache new.ports.items new.banks.items run.audit
 
 -- why a run gave no lists: memory was short before a thread began, and no part has moved; or it came to something that has this fault
-abbrev pub FailsBy : {W B R D : ℕ} → List (Vec Ask) → ℕ → Station W B R D → Station W B R D → RunFault → Type 0
+abbrev pub FailsBy : List (Vec Ask) → ℕ → Station → Station → RunFault → Type 0
 FailsBy scripts turns old new fault =
     ((fault ≡ OutOfMemory) × IsUnmoved old new) ⊎ ((run : Run) × CameTo scripts turns old new run × (fault_of run ≡ Some fault))

@@ -45,18 +45,18 @@ pub record HaveRunOn (scripts : List (Vec Ask)) (old new : List Port) (lists : L
       → HasRunOn (slice_index_or scripts p s).items (slice_index_or old p d) (slice_index_or new p d) (slice_index_or lists p l).items
 
 -- the journal at hand was handed out behind those that were handed out before, and an empty one is begun
-pub record HandsOut {W B R D : ℕ} (old new : CacheSide W B R D) (segment : List Entry) : Type 0 where
+pub record HandsOut (old new : CacheSide) (segment : List Entry) : Type 0 where
   pub earlier : earlier_of new ≡ earlier_of old ++ segment
   pub held : held_of new ≡ []
 
 -- why a station isn't renewed, as it stands: it would note too many entries, memory was short, or an audit of it finds this
-abbrev pub IsNotRenewed : {W B R D : ℕ} → Station W B R D → RenewFault → Type 0
+abbrev pub IsNotRenewed : Station → RenewFault → Type 0
 IsNotRenewed station unrenewed.WornOut = MAX_NOTED < noted_after station.cache
 IsNotRenewed station unrenewed.OutOfMemory = noted_after station.cache ≤ MAX_NOTED
 IsNotRenewed station (unrenewed.NotClean found) =
     (noted_after station.cache ≤ MAX_NOTED) × (found ≡ audit_of station.cache station.ports.items station.banks.items) × (found ≢ Clean)
 
-abbrev pub TellsRenewal : {W B R D : ℕ} → Station W B R D → SegmentFault → Type 0
+abbrev pub TellsRenewal : Station → SegmentFault → Type 0
 TellsRenewal station (Run fault) = Unit {0}
 TellsRenewal station (Renewal fault) = IsNotRenewed station fault
 
@@ -66,7 +66,7 @@ ComesToRenewal scripts old new (Run fault) = Unit {0}
 ComesToRenewal scripts old new (Renewal fault) = (lists : List (Vec Told)) × HaveRun scripts old new lists
 
 -- a run's fault is that of what it came to
-abbrev pub TellsRun : {W B R D : ℕ} → List (Vec Ask) → ℕ → Station W B R D → Station W B R D → SegmentFault → Type 0
+abbrev pub TellsRun : List (Vec Ask) → ℕ → Station → Station → SegmentFault → Type 0
 TellsRun scripts turns old new (Run fault) = FailsBy scripts turns old new fault
 TellsRun scripts turns old new (Renewal fault) = Unit {0}
 
@@ -87,13 +87,13 @@ pub record HaveRunNext (begin asks : ℕ) (scripts : List (Vec Ask)) (old new : 
       (slice_index_or segment.lists.items p l).items
 
 -- and the segment was handed out
-pub record HandsOutNext {W B R D : ℕ} (begin asks : ℕ) (scripts : List (Vec Ask)) (old new : Station W B R D) (segment : Segment) : Type 0
+pub record HandsOutNext (begin asks : ℕ) (scripts : List (Vec Ask)) (old new : Station) (segment : Segment) : Type 0
   where
     pub ran : HaveRunNext begin asks scripts old.ports.items new.ports.items segment
     pub journal : HandsOut old.cache new.cache segment.journal.items
 
 -- and kept
-pub record RunsNext {W B R D : ℕ} (begin asks : ℕ) (scripts : List (Vec Ask)) (old new : Station W B R D)
+pub record RunsNext (begin asks : ℕ) (scripts : List (Vec Ask)) (old new : Station)
     (kept : List Segment → Type 0) : Type 0
   where
     pub segment : Segment
@@ -101,7 +101,7 @@ pub record RunsNext {W B R D : ℕ} (begin asks : ℕ) (scripts : List (Vec Ask)
     pub handed_out : HandsOutNext begin asks scripts old new segment
 
 -- nothing was kept: nothing was handed out, or what was handed out found no memory
-pub record StopsNext {W B R D : ℕ} (begin asks : ℕ) (scripts : List (Vec Ask)) (old new : Station W B R D)
+pub record StopsNext (begin asks : ℕ) (scripts : List (Vec Ask)) (old new : Station)
     (kept : List Segment → Type 0) (fault : SegmentFault) : Type 0
   where
     pub kept_is : kept []
@@ -110,7 +110,7 @@ pub record StopsNext {W B R D : ℕ} (begin asks : ℕ) (scripts : List (Vec Ask
 
 -- why the next run failed: memory was short for the pieces, and nothing has moved; or the run of the pieces failed by its own fault;
 -- or the keeper found no memory for the segment
-abbrev pub FailsNext : {W B R D : ℕ} → ℕ → ℕ → ℕ → List (Vec Ask) → Station W B R D → Station W B R D → SegmentFault → Type 0
+abbrev pub FailsNext : ℕ → ℕ → ℕ → List (Vec Ask) → Station → Station → SegmentFault → Type 0
 FailsNext begin asks turns scripts old new fault =
     ((fault ≡ Run OutOfMemory) × (new ≡ old))
     ⊎ (((pieces : List (Vec Ask))
@@ -164,7 +164,7 @@ piece_count asks scripts = max (div_ceil (longest_of scripts) asks) 1
 
 -- the scripts were run in segments, all of which were kept, and behind the last one nothing of them is left; `kept` says of segments
 -- that these were kept and no others
-pub record RunsInSegments {W B R D : ℕ} (asks : ℕ) (scripts : List (Vec Ask)) (old new : Station W B R D)
+pub record RunsInSegments (asks : ℕ) (scripts : List (Vec Ask)) (old new : Station)
     (kept : List Segment → Type 0) : Type 0
   where
     pub segments : List Segment
@@ -184,7 +184,7 @@ MayBeLost fault (segment ∷ more) = ⊥
 
 -- the runs stopped behind these segments, which were kept but for one that may be lost; what the ports did behind the last
 -- renewal isn't said
-pub record StopsBehind {W B R D : ℕ} (asks : ℕ) (scripts : List (Vec Ask)) (old new : Station W B R D)
+pub record StopsBehind (asks : ℕ) (scripts : List (Vec Ask)) (old new : Station)
     (kept : List Segment → Type 0) (fault : SegmentFault) : Type 0
   where
     pub segments : List Segment
@@ -201,14 +201,14 @@ pub record StopsBehind {W B R D : ℕ} (asks : ℕ) (scripts : List (Vec Ask)) (
 
 -- from the one station to the other by runs, one behind the other, each of which kept to its turns and gave one of these segments:
 -- the first of them of the pieces behind so many asks
-abbrev pub EachKeepsTo : {W B R D : ℕ} → ℕ → ℕ → ℕ → List (Vec Ask) → Station W B R D → Station W B R D → List Segment → Type 0
+abbrev pub EachKeepsTo : ℕ → ℕ → ℕ → List (Vec Ask) → Station → Station → List Segment → Type 0
 EachKeepsTo turns begin asks scripts old new [] = new ≡ old
-EachKeepsTo {W} {B} {R} {D} turns begin asks scripts old new (segment ∷ more) =
-    (next : Station W B R D) × HandsOutNext begin asks scripts old next segment × KeepsTo turns old next
+EachKeepsTo turns begin asks scripts old new (segment ∷ more) =
+    (next : Station) × HandsOutNext begin asks scripts old next segment × KeepsTo turns old next
     × EachKeepsTo turns (begin + asks) asks scripts next new more
 
 -- the scripts were run so to their end, and the segments kept
-pub record RunsInTurns {W B R D : ℕ} (turns asks : ℕ) (scripts : List (Vec Ask)) (old new : Station W B R D)
+pub record RunsInTurns (turns asks : ℕ) (scripts : List (Vec Ask)) (old new : Station)
     (kept : List Segment → Type 0) : Type 0
   where
     pub segments : List Segment
@@ -217,7 +217,7 @@ pub record RunsInTurns {W B R D : ℕ} (turns asks : ℕ) (scripts : List (Vec A
     pub each : EachKeepsTo turns 0 asks scripts old new segments
 
 -- the runs stopped behind these segments, and one that stopped has kept to its turns too
-pub record StopsInTurns {W B R D : ℕ} (turns asks : ℕ) (scripts : List (Vec Ask)) (old new : Station W B R D)
+pub record StopsInTurns (turns asks : ℕ) (scripts : List (Vec Ask)) (old new : Station)
     (kept : List Segment → Type 0) (fault : SegmentFault) : Type 0
   where
     pub segments : List Segment
@@ -225,14 +225,14 @@ pub record StopsInTurns {W B R D : ℕ} (turns asks : ℕ) (scripts : List (Vec 
     pub kept_is : kept segments
     pub lost_is : MayBeLost fault lost
     -- the station as the last renewal left it
-    pub renewed : Station W B R D
+    pub renewed : Station
     pub each : EachKeepsTo turns 0 asks scripts old renewed (segments ++ lost)
     pub since : KeepsTo turns renewed new
 
 -- behind runs to these segments the next one failed
-pub record FailsBehind {W B R D : ℕ} (turns asks : ℕ) (scripts : List (Vec Ask)) (old new : Station W B R D) (fault : SegmentFault) : Type 0
+pub record FailsBehind (turns asks : ℕ) (scripts : List (Vec Ask)) (old new : Station) (fault : SegmentFault) : Type 0
   where
     pub segments : List Segment
-    pub renewed : Station W B R D
+    pub renewed : Station
     pub each : EachKeepsTo turns 0 asks scripts old renewed segments
     pub fails : FailsNext (length segments * asks) asks turns scripts renewed new fault

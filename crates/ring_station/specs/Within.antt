@@ -9,7 +9,7 @@ use Rattle.ring_station.specs.PortRuns.{moves_of}
 
 -- between these two at most so many items went over the rings of each port, which took what it took behind what it had; at most
 -- so many entries were noted, and each bank served at most so many commands
-pub record KeepsTo {W B R D : ℕ} (turns : ℕ) (old new : Station W B R D) : Type 0 where
+pub record KeepsTo (turns : ℕ) (old new : Station) : Type 0 where
   pub ports : length new.ports.items ≡ length old.ports.items
   pub banks : length new.banks.items ≡ length old.banks.items
   pub moved : (p : ℕ) (d : Port) → p < length old.ports.items

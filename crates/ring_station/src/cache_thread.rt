@@ -23,21 +23,14 @@ use std::rt::Clock;
 use std::sync::atomic::{AtomicBool, Ordering};
 
 /// Runs the cache side, and the banks on its thread.
-pub(crate) fn run_cache<
-    R: Clock,
-    G: Gate,
-    const WAYS: usize,
-    const WORDS: usize,
-    const REGS: usize,
-    const DEPTH: usize,
->(
+pub(crate) fn run_cache<R: Clock, G: Gate>(
     rt: &R,
     gate: &G,
     ports: u32,
     banks: u32,
     turns: u64,
     done: &AtomicBool,
-    cache: &mut CacheSide<WAYS, WORDS, REGS, DEPTH>,
+    cache: &mut CacheSide,
     own: &mut [BankRun],
 ) -> ThreadEnd
     requires few { length own.old ≤ MAX_BANKS }
@@ -54,21 +47,14 @@ pub(crate) fn run_cache<
 // never gets room.
 //
 // The result counts the banks' turns too.
-fn go_round<
-    R: Clock,
-    G: Gate,
-    const WAYS: usize,
-    const WORDS: usize,
-    const REGS: usize,
-    const DEPTH: usize,
->(
+fn go_round<R: Clock, G: Gate>(
     rt: &R,
     gate: &G,
     ports: u32,
     banks: u32,
     turns: u64,
     done: &AtomicBool,
-    cache: &mut CacheSide<WAYS, WORDS, REGS, DEPTH>,
+    cache: &mut CacheSide,
     own: &mut [BankRun],
 ) -> (ThreadEnd, u64)
     requires few { length own.old ≤ MAX_BANKS }
@@ -101,11 +87,7 @@ fn go_round<
     (ThreadEnd::stopped(turns, ThreadFault::TurnLimit), had)
 }
 
-fn turn_round<const WAYS: usize, const WORDS: usize, const REGS: usize, const DEPTH: usize>(
-    may: bool,
-    round: &mut Round,
-    cache: &mut CacheSide<WAYS, WORDS, REGS, DEPTH>,
-) -> Option<Stepped>
+fn turn_round(may: bool, round: &mut Round, cache: &mut CacheSide) -> Option<Stepped>
     ensures same { cache_id cache.new ≡ cache_id cache.old }
     ensures turn { TurnsRound may round.old round.new cache.old cache.new result }
 {
@@ -115,11 +97,7 @@ fn turn_round<const WAYS: usize, const WORDS: usize, const REGS: usize, const DE
     stepped
 }
 
-fn take_turn<const WAYS: usize, const WORDS: usize, const REGS: usize, const DEPTH: usize>(
-    may: bool,
-    source: Source,
-    cache: &mut CacheSide<WAYS, WORDS, REGS, DEPTH>,
-) -> Option<Stepped>
+fn take_turn(may: bool, source: Source, cache: &mut CacheSide) -> Option<Stepped>
     ensures same { cache_id cache.new ≡ cache_id cache.old }
     ensures turn { IsTurn (SideSteps source) may cache.old cache.new result }
 {
@@ -129,10 +107,7 @@ fn take_turn<const WAYS: usize, const WORDS: usize, const REGS: usize, const DEP
     Some(cache.step_with(source, Look::IfNeeded))
 }
 
-fn has_ended_port<const WAYS: usize, const WORDS: usize, const REGS: usize, const DEPTH: usize>(
-    cache: &CacheSide<WAYS, WORDS, REGS, DEPTH>,
-    place: u32,
-) -> bool
+fn has_ended_port(cache: &CacheSide, place: u32) -> bool
     ensures { result ≡ ends_at (held_of cache.now) place }
 {
     matches!(cache.entry(place), Some(Entry::Ended { .. }))

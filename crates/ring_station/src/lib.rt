@@ -27,7 +27,7 @@ mod talk;
 mod thread_end;
 mod threads;
 
-pub use cache_unit::CacheUnit;
+pub use cache_unit::{ShapedUnit, Sizes};
 pub use crew::Crew;
 pub use fault::{FaultText, RunFault, SegmentFault};
 pub use flat_model::{Answer, Cause, Event, Lanes, MakeFault, Shape, ShapeField, Word};
@@ -41,6 +41,6 @@ pub use segments::run_in_segments;
 pub use station_parts::{
     ASK_PLACES, Ask, Audit, BankSide, CacheSide, Entry, Look, MAX_ENTRIES, MAX_NOTED, MAX_PORTS,
     PORT_TAGS, Port, RawBank, RenewFault, Ring, SideFault, Source, Station, Stepped,
-    TELLING_PLACES, Told, audit, renew, station,
+    TELLING_PLACES, Told, audit, renew, shaped_station, station,
 };
 pub use thread_end::{ThreadEnd, ThreadFault};

@@ -79,12 +79,7 @@ impl Round {
     }
 
     /// Goes to the next source with a known item, at most once round.
-    pub(crate) fn seek<
-        const WAYS: usize,
-        const WORDS: usize,
-        const REGS: usize,
-        const DEPTH: usize,
-    >(&mut self, may: bool, cache: &mut CacheSide<WAYS, WORDS, REGS, DEPTH>)
+    pub(crate) fn seek(&mut self, may: bool, cache: &mut CacheSide)
         ensures same { cache_id cache.new ≡ cache_id cache.old }
         ensures looks { OnlyLooks (state_of cache.old) (state_of cache.new) }
         ensures seeks { may ≡ true → Seeks self.old self.new (state_of cache.old) (state_of cache.new) }
@@ -109,10 +104,7 @@ impl Round {
         u64::from(self.ports) + 2 * (u64::from(self.banks) + OTHER_SOURCES)
     }
 
-    fn look<const WAYS: usize, const WORDS: usize, const REGS: usize, const DEPTH: usize>(
-        &self,
-        cache: &mut CacheSide<WAYS, WORDS, REGS, DEPTH>,
-    )
+    fn look(&self, cache: &mut CacheSide)
         ensures same { cache_id cache.new ≡ cache_id cache.old }
         ensures looks { OnlyLooks (state_of cache.old) (state_of cache.new) }
     {

@@ -41,17 +41,10 @@ use std::thread::Threads;
 /// `OutOfMemory`: too little memory. `TurnLimit`: a thread used up its turns, which stops no other, or the
 /// journal was full. The station then may be audited, and not run again. After `Ok` it may be renewed, and run
 /// again. If a thread can't be made, the parts run one after another, mostly to `TurnLimit`.
-pub fn run_threads<
-    R: Clock + Threads + Sync,
-    G: Gate,
-    const WAYS: usize,
-    const WORDS: usize,
-    const REGS: usize,
-    const DEPTH: usize,
->(
+pub fn run_threads<R: Clock + Threads + Sync, G: Gate>(
     rt: &R,
     alloc: Global,
-    station: &mut Station<WAYS, WORDS, REGS, DEPTH>,
+    station: &mut Station,
     scripts: &[Vec<Ask>],
     turns: u64,
     gate: &G,
@@ -93,17 +86,10 @@ pub fn run_threads<
 /// since a change of thread costs many turns.
 ///
 /// `AllocError`: too little memory before the threads began, and every part is as it was.
-pub fn run_and_audit<
-    R: Clock + Threads + Sync,
-    G: Gate,
-    const WAYS: usize,
-    const WORDS: usize,
-    const REGS: usize,
-    const DEPTH: usize,
->(
+pub fn run_and_audit<R: Clock + Threads + Sync, G: Gate>(
     rt: &R,
     alloc: Global,
-    station: &mut Station<WAYS, WORDS, REGS, DEPTH>,
+    station: &mut Station,
     scripts: &[Vec<Ask>],
     turns: u64,
     crew: Crew,
@@ -151,17 +137,10 @@ struct Ends {
     banks: Vec<ThreadEnd>,
 }
 
-fn run_parts<
-    R: Clock + Threads + Sync,
-    G: Gate,
-    const WAYS: usize,
-    const WORDS: usize,
-    const REGS: usize,
-    const DEPTH: usize,
->(
+fn run_parts<R: Clock + Threads + Sync, G: Gate>(
     rt: &R,
     alloc: Global,
-    cache: &mut CacheSide<WAYS, WORDS, REGS, DEPTH>,
+    cache: &mut CacheSide,
     ports: &mut Vec<Port>,
     banks: &mut Vec<BankSide>,
     scripts: &[Vec<Ask>],
@@ -214,20 +193,13 @@ fn run_parts<
 }
 
 #[tactic(auto, using(crate::proofs::CrewRunning::still_not_begun))]
-fn run_crew<
-    R: Clock + Threads + Sync,
-    G: Gate,
-    const WAYS: usize,
-    const WORDS: usize,
-    const REGS: usize,
-    const DEPTH: usize,
->(
+fn run_crew<R: Clock + Threads + Sync, G: Gate>(
     rt: &R,
     gate: &G,
     scripts: &[Vec<Ask>],
     turns: u64,
     crew: Crew,
-    cache: &mut CacheSide<WAYS, WORDS, REGS, DEPTH>,
+    cache: &mut CacheSide,
     ports: &mut Vec<PortRun>,
     banks: &mut Vec<BankRun>,
 ) -> Result<ThreadEnd, AllocError>

@@ -36,17 +36,10 @@ pub struct Segment {
 /// handed out.
 ///
 /// A script with `Done` in it comes to no end.
-pub fn run_and_renew<
-    R: Clock + Threads + Sync,
-    G: Gate,
-    const WAYS: usize,
-    const WORDS: usize,
-    const REGS: usize,
-    const DEPTH: usize,
->(
+pub fn run_and_renew<R: Clock + Threads + Sync, G: Gate>(
     rt: &R,
     alloc: Global,
-    station: &mut Station<WAYS, WORDS, REGS, DEPTH>,
+    station: &mut Station,
     scripts: &[Vec<Ask>],
     turns: u64,
     crew: Crew,
@@ -87,10 +80,7 @@ pub fn run_and_renew<
 }
 
 // Renews a station whose parts are in the order of their numbers.
-fn renew_station<const WAYS: usize, const WORDS: usize, const REGS: usize, const DEPTH: usize>(
-    alloc: Global,
-    station: &mut Station<WAYS, WORDS, REGS, DEPTH>,
-) -> Result<Vec<Entry>, RenewFault>
+fn renew_station(alloc: Global, station: &mut Station) -> Result<Vec<Entry>, RenewFault>
     requires { IsOneStation station.old }
     ensures same { IsSameStation station.old station.new }
     ensures cache { IfOk result

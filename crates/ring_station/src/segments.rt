@@ -28,18 +28,10 @@ use std::thread::Threads;
 /// refused is lost, and its journal counts as handed out.
 ///
 /// A script with `Done` in it comes to no end.
-pub fn run_in_segments<
-    R: Clock + Threads + Sync,
-    G: Gate,
-    K: Keeper,
-    const WAYS: usize,
-    const WORDS: usize,
-    const REGS: usize,
-    const DEPTH: usize,
->(
+pub fn run_in_segments<R: Clock + Threads + Sync, G: Gate, K: Keeper>(
     rt: &R,
     alloc: Global,
-    station: &mut Station<WAYS, WORDS, REGS, DEPTH>,
+    station: &mut Station,
     scripts: &[Vec<Ask>],
     asks: usize,
     turns: u64,
@@ -93,18 +85,10 @@ fn longest_script(scripts: &[Vec<Ask>]) -> usize
         .fold(0, |longest, script| longest.max(script.len()))
 }
 
-fn run_pieces<
-    R: Clock + Threads + Sync,
-    G: Gate,
-    K: Keeper,
-    const WAYS: usize,
-    const WORDS: usize,
-    const REGS: usize,
-    const DEPTH: usize,
->(
+fn run_pieces<R: Clock + Threads + Sync, G: Gate, K: Keeper>(
     rt: &R,
     alloc: Global,
-    station: &mut Station<WAYS, WORDS, REGS, DEPTH>,
+    station: &mut Station,
     scripts: &[Vec<Ask>],
     begin: usize,
     asks: usize,

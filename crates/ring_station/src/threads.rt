@@ -22,20 +22,13 @@ use std::sync::atomic::AtomicBool;
 use std::thread::{Threads, for_each_chunk_mut, join_mut};
 
 /// Runs all parts to their ends.
-pub(crate) fn run_all<
-    R: Clock + Threads + Sync,
-    G: Gate,
-    const WAYS: usize,
-    const WORDS: usize,
-    const REGS: usize,
-    const DEPTH: usize,
->(
+pub(crate) fn run_all<R: Clock + Threads + Sync, G: Gate>(
     rt: &R,
     gate: &G,
     scripts: &[Vec<Ask>],
     turns: u64,
     crew: Crew,
-    cache: &mut CacheSide<WAYS, WORDS, REGS, DEPTH>,
+    cache: &mut CacheSide,
     ports: &mut Vec<PortRun>,
     banks: &mut Vec<BankRun>,
 ) -> ThreadEnd

@@ -12,10 +12,7 @@ use station_parts::{CacheSide, PORT_TAGS};
 use std::alloc::{AllocError, Global};
 
 /// The journal at hand, oldest entry first. `AllocError`: too little memory.
-pub fn read_journal<const WAYS: usize, const WORDS: usize, const REGS: usize, const DEPTH: usize>(
-    alloc: Global,
-    cache: &CacheSide<WAYS, WORDS, REGS, DEPTH>,
-) -> Result<Vec<Entry>, AllocError>
+pub fn read_journal(alloc: Global, cache: &CacheSide) -> Result<Vec<Entry>, AllocError>
     ensures { IfOk result (λ entries. entries.items ≡ held_of cache.now) }
 {
     let mut entries = Vec::new(alloc);

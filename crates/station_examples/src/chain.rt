@@ -125,18 +125,12 @@ fn word_of(at: u32) -> Word {
 /// Follows the chain on two threads, one for the port, and one for the cache side and the bank. Each has
 /// `turns` turns; the second ends when the follower has all its words and nothing is under way. Then the
 /// station is audited.
-pub fn follow_chain<
-    R: Threads + Sync,
-    const WAYS: usize,
-    const WORDS: usize,
-    const REGS: usize,
-    const DEPTH: usize,
->(
+pub fn follow_chain<R: Threads + Sync>(
     rt: &R,
     follower: &mut Follower,
     links: &[(u32, u32)],
     turns: u64,
-    cache: &mut CacheSide<WAYS, WORDS, REGS, DEPTH>,
+    cache: &mut CacheSide,
     port: &mut Port,
     bank: &mut BankSide,
 ) -> Audit
@@ -156,19 +150,13 @@ pub fn follow_chain<
     audit(cache, slice::from_mut(port), slice::from_mut(bank))
 }
 
-fn run_threads<
-    R: Threads + Sync,
-    const WAYS: usize,
-    const WORDS: usize,
-    const REGS: usize,
-    const DEPTH: usize,
->(
+fn run_threads<R: Threads + Sync>(
     rt: &R,
     follower: &mut Follower,
     links: &[(u32, u32)],
     turns: u64,
     has_all: &AtomicBool,
-    cache: &mut CacheSide<WAYS, WORDS, REGS, DEPTH>,
+    cache: &mut CacheSide,
     port: &mut Port,
     bank: &mut BankSide,
 )
@@ -215,12 +203,7 @@ fn run_port(
     has_all.store(true, Ordering::SeqCst);
 }
 
-fn run_memory<const WAYS: usize, const WORDS: usize, const REGS: usize, const DEPTH: usize>(
-    turns: u64,
-    has_all: &AtomicBool,
-    cache: &mut CacheSide<WAYS, WORDS, REGS, DEPTH>,
-    bank: &mut BankSide,
-)
+fn run_memory(turns: u64, has_all: &AtomicBool, cache: &mut CacheSide, bank: &mut BankSide)
     ensures cache { cache_id cache.new ≡ cache_id cache.old }
     ensures bank { bank_id bank.new ≡ bank_id bank.old }
 {
@@ -234,9 +217,7 @@ fn run_memory<const WAYS: usize, const WORDS: usize, const REGS: usize, const DE
     }
 }
 
-fn go_round<const WAYS: usize, const WORDS: usize, const REGS: usize, const DEPTH: usize>(
-    cache: &mut CacheSide<WAYS, WORDS, REGS, DEPTH>,
-)
+fn go_round(cache: &mut CacheSide)
     ensures { cache_id cache.new ≡ cache_id cache.old }
 {
     cache.step(Source::Ask(0));

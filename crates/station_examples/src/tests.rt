@@ -1,6 +1,6 @@
 //! Stations by hand and on threads: each case is a row of a table, which one loop walks.
 use flat_model::{Shape, Word};
-use ring_station::{Ask, CacheSide, Station, Told};
+use ring_station::{Ask, Told};
 use std::alloc::{AllocError, Global};
 
 mod audited;
@@ -14,10 +14,6 @@ mod limited;
 mod on_threads;
 mod refused;
 mod renewed;
-
-type SmallStation = Station<1, 4, 2, 2>;
-
-type SmallCache = CacheSide<1, 4, 2, 2>;
 
 // Blocks of four words in two banks, behind two frames.
 const SHAPE: Shape = Shape {

@@ -101,7 +101,7 @@ none_behind xs (y ∷ ys) zs e is = grind arith
 
 -- ---- the audit
 
-module _ {W B R D : ℕ} (cache : CacheSide W B R D) (ports : List Port) (banks : List BankSide)
+module _ (cache : CacheSide) (ports : List Port) (banks : List BankSide)
     (seen : IsSeen cache ports banks) (one : AreOneStation cache ports banks) where
   abbrev pub z : Sizes
   z = cache.unit.sizes

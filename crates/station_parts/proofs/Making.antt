@@ -8,7 +8,6 @@ use Rattle.std.proofs.lemmas.List.FromFn.{length-map-range_with_len, map-range_w
 use Rattle.station_parts.specs.declared.make.TheConstants.{MAX_PORTS, MAX_ENTRIES}
 use Rattle.rtrb.specs.Ring.{IsPair, known_free}
 use Rattle.flat_model.specs.Words.{zero_word}
-use Rattle.flat_model.specs.declared.Shape.{Shape}
 use Rattle.flat_model.specs.declared.Word.{Word}
 use Rattle.memory_banks.specs.Banks.{share_of}
 use Rattle.memory_banks.specs.declared.BankAnswer.{BankAnswer}
@@ -16,7 +15,7 @@ use Rattle.cache_law.specs.declared.Sizes.{Sizes}
 use Rattle.cache_law.specs.State.{UnitState, opening_cache}
 use Rattle.cache_law.specs.Sound.{InRange}
 use Rattle.cache_unit.specs.Limits as limits
-use Rattle.cache_unit.proofs.Numbers.{in_range}
+use Rattle.cache_unit.proofs.Numbers.{in_size, looser}
 use Rattle.station_journal.specs.Journal.{opening_stand}
 use Rattle.station_journal.specs.Side.{SideTells}
 use Rattle.station_journal.specs.declared.asks.Ask.{Ask}
@@ -35,7 +34,7 @@ use Rattle.std.specs.Option.{option_or}
 use Rattle.flat_model.specs.declared.ShapeField.{ShapeField}
 use Rattle.flat_model.specs.declared.ShapeField.TheVariants.{Ports, Journal}
 use Rattle.flat_model.specs.Ranges.{is_between}
-use Rattle.station_parts.specs.New.{bad_field, IsNewPort, IsNewBank, IsNewPopper, IsNewPusher, IsNewLine, IsNewCache, IsNewStation}
+use Rattle.station_parts.specs.New.{bad_field, bad_size, bad_count, IsNewPort, IsNewBank, IsNewPopper, IsNewPusher, IsNewLine, IsNewCache, IsNewStation}
 use Rattle.station_parts.specs.New.{AreNewPorts, AreNewBanks}
 use Rattle.station_parts.proofs.Rows.{Popper, Pusher}
 
@@ -66,12 +65,12 @@ one_more_port ports asks tellings p a t h asks_pair told_pair port popper pusher
 
 -- ---- a bank
 
-pub one_more_bank : (s : Shape) (banks : List BankSide) (lines : List Line) (answers : List (Popper BankAnswer))
-    (b : BankSide) (l : Line) (a : Popper BankAnswer) → AreNewBanks s banks lines answers → IsPair l.ring b.commands
-    → IsPair b.answers a → IsNewBank s.bank_queue b → IsNewLine s.bank_queue l → IsNewPopper a
-    → length b.words.items ≡ (s.words + s.banks - 1 - length banks) / s.banks
-    → AreNewBanks s (banks ++ b ∷ []) (lines ++ l ∷ []) (answers ++ a ∷ [])
-one_more_bank s banks lines answers b l a h command_pair answer_pair bank line popper count =
+pub one_more_bank : (z : Sizes) (banks : List BankSide) (lines : List Line) (answers : List (Popper BankAnswer))
+    (b : BankSide) (l : Line) (a : Popper BankAnswer) → AreNewBanks z banks lines answers → IsPair l.ring b.commands
+    → IsPair b.answers a → IsNewBank z.bank_queue b → IsNewLine z.bank_queue l → IsNewPopper a
+    → length b.words.items ≡ (z.words + z.banks - 1 - length banks) / z.banks
+    → AreNewBanks z (banks ++ b ∷ []) (lines ++ l ∷ []) (answers ++ a ∷ [])
+one_more_bank z banks lines answers b l a h command_pair answer_pair bank line popper count =
     record {
       command_rings = matched_more _ _ _ _ _ _ _ h.command_rings (ring_of_pair l.ring b.commands command_pair);
       answer_rings = matched_more _ _ _ _ _ _ _ h.answer_rings (sym (ring_of_pair b.answers a answer_pair));
@@ -80,16 +79,16 @@ one_more_bank s banks lines answers b l a h command_pair answer_pair bank line p
           ∙ map-append shares _ _
           ∙ sym (map-range_with_len_more shares 0 (length banks) _ (omega arith))
           ∙ ap (λ n. map shares (range_with_len 0 n)) (sym (length-append banks _));
-      each_bank = All-push (IsNewBank s.bank_queue) _ _ h.each_bank bank;
-      each_line = All-push (IsNewLine s.bank_queue) _ _ h.each_line line;
+      each_bank = All-push (IsNewBank z.bank_queue) _ _ h.each_bank bank;
+      each_line = All-push (IsNewLine z.bank_queue) _ _ h.each_line line;
       each_answers = All-push IsNewPopper _ _ h.each_answers popper;
     }
   where
     shares : ℕ → ℕ
-    shares k = length (share_of (replicate s.words zero_word) s.banks k)
+    shares k = length (share_of (replicate z.words zero_word) z.banks k)
 
-    share_count : shares (length banks) ≡ (s.words + s.banks - 1 - length banks) / s.banks
-    share_count = grind (arith, length-map-range_with_len, length-replicate, s.words)
+    share_count : shares (length banks) ≡ (z.words + z.banks - 1 - length banks) / z.banks
+    share_count = grind (arith, length-map-range_with_len, length-replicate, z.words)
 
 pub zero_words : (ws : List Word) (n : ℕ) → ws ≡ replicate n zero_word → ws ≡ replicate (length ws) zero_word
 zero_words ws n e = grind (arith, length-replicate)
@@ -131,18 +130,18 @@ module _ (ports : List Port) (asks : List (Popper Ask)) (tellings : List (Pusher
   pub new_ports : PortsTell asks tellings []
   new_ports = grind (arith, tellings_number, asks_number, none_asked, none_told)
 
-module _ (s : Shape) (banks : List BankSide) (lines : List Line) (answers : List (Popper BankAnswer))
-    (made : AreNewBanks s banks lines answers) where
+module _ (z : Sizes) (banks : List BankSide) (lines : List Line) (answers : List (Popper BankAnswer))
+    (made : AreNewBanks z banks lines answers) where
   pub lines_number : length lines ≡ length banks
   lines_number = grind (arith, as_long)
 
   pub answers_number : length answers ≡ length banks
   answers_number = grind (arith, as_long)
 
-  free_commands : (b : ℕ) → b < length banks → free_at lines b ≡ s.bank_queue
+  free_commands : (b : ℕ) → b < length banks → free_at lines b ≡ z.bank_queue
   free_commands b l =
-      at_each (λ x. known_free x.ring) s.bank_queue 0 lines b (rw (sym lines_number) at l)
-      (All-weaker (IsNewLine s.bank_queue) _ (λ x h. h.ring.1) lines made.each_line)
+      at_each (λ x. known_free x.ring) z.bank_queue 0 lines b (rw (sym lines_number) at l)
+      (All-weaker (IsNewLine z.bank_queue) _ (λ x h. h.ring.1) lines made.each_line)
 
   none_sent : (b : ℕ) → sent_at lines b ≡ []
   none_sent b = grind (arith, at_all)
@@ -153,9 +152,9 @@ module _ (s : Shape) (banks : List BankSide) (lines : List Line) (answers : List
   pub new_counted : (b : ℕ) → taken_at lines b ≡ length (popped_at answers b)
   new_counted b = grind (arith, at_all)
 
-  pub new_tells : (z : Sizes) (u : UnitState) → u ≡ record { sizes = z; cache = opening_cache z }
+  pub new_tells : (u : UnitState) → u ≡ record { sizes = z; cache = opening_cache z }
       → SideTells u.sizes u.cache (sent_at lines) (popped_at answers) None []
-  new_tells z u is =
+  new_tells u is =
       rw is (record {
         stand = opening_stand z;
         come = λ b. [];
@@ -166,10 +165,9 @@ module _ (s : Shape) (banks : List BankSide) (lines : List Line) (answers : List
         all = none_popped;
       })
 
-module _ {W B R D : ℕ} (s : Shape) (z : Sizes) (entries : ℕ) (ports : List Port) (banks : List BankSide) (c : CacheSide W B R D)
-    (new : AreNewPorts ports c.asks.items c.tellings.items) (made : AreNewBanks s banks c.row.lines.items c.answers.items)
-    (bank_number : length banks ≡ z.banks) (words_same : s.words ≡ z.words) (banks_same : s.banks ≡ z.banks)
-    (queue_same : s.bank_queue ≡ z.bank_queue) (unit_is : c.unit ≡ record { sizes = z; cache = opening_cache z })
+module _ (z : Sizes) (entries : ℕ) (ports : List Port) (banks : List BankSide) (c : CacheSide)
+    (new : AreNewPorts ports c.asks.items c.tellings.items) (made : AreNewBanks z banks c.row.lines.items c.answers.items)
+    (bank_number : length banks ≡ z.banks) (unit_is : c.unit ≡ record { sizes = z; cache = opening_cache z })
     (first : c.earlier.values ≡ []) (empty : c.journal.items ≡ []) (limit_is : c.limit ≡ entries) (sound : c.fault ≡ None) where
   new_cache : IsNewCache z (length ports) entries c
   new_cache =
@@ -187,7 +185,7 @@ module _ {W B R D : ℕ} (s : Shape) (z : Sizes) (entries : ℕ) (ports : List P
         commands = grind (arith, at_all);
         came = grind (arith, at_all);
         words = grind (arith, at_all);
-        command_places = λ b l. free_commands s banks _ _ made b (rw (sym bank_number) at l) ∙ queue_same;
+        command_places = λ b l. free_commands z banks _ _ made b (rw (sym bank_number) at l);
       }
 
   pub new_station : IsNewStation z (length ports) entries c ports banks
@@ -197,18 +195,23 @@ module _ {W B R D : ℕ} (s : Shape) (z : Sizes) (entries : ℕ) (ports : List P
 
 -- what numbers that are all in their ranges give
 pub record AreInRange (z : Sizes) (ports journal : ℕ) : Type 0 where
-  pub unit : limits.bad_field z ≡ None
+  pub unit : limits.bad_size z ≡ None
   pub range : InRange z
   pub few_ports : ports ≤ MAX_PORTS
   pub few_entries : journal ≤ MAX_ENTRIES
 
-pub are_in_range : (z : Sizes) (ports journal : ℕ) → bad_field z ports journal ≡ None → AreInRange z ports journal
+pub are_in_range : (z : Sizes) (ports journal : ℕ) → bad_size z ports journal ≡ None → AreInRange z ports journal
 are_in_range z ports journal e = go _ refl _ refl _ refl e
   where
-    go : (o : Option ShapeField) → limits.bad_field z ≡ o → (p : Bool) → is_between ports 1 MAX_PORTS ≡ p → (j : Bool)
+    go : (o : Option ShapeField) → limits.bad_size z ≡ o → (p : Bool) → is_between ports 1 MAX_PORTS ≡ p → (j : Bool)
         → is_between journal 1 MAX_ENTRIES ≡ j → option_or o (cond (not p) (Some Ports) (cond (not j) (Some Journal) None)) ≡ None
         → AreInRange z ports journal
     go (Some field) u p q j r h = cc
     go None u false q j r h = cc
     go None u true q false r h = cc
-    go None u true q true r h = grind (arith, in_range)
+    go None u true q true r h = grind (arith, in_size)
+
+-- where the unit's numbers are within the ranges of a type, both orders of checks find the same
+pub found_alike : (z : Sizes) (ports journal : ℕ) → limits.bad_field z ≡ None → bad_field z ports journal ≡ bad_size z ports journal
+found_alike z ports journal e =
+    ap (λ o. option_or o (bad_count ports journal)) (e ∙ sym (looser z e))

@@ -54,7 +54,7 @@ module _ {T : Type 0} (olds news : List (Popper T)) (place : ℕ) where
   pub there_popped : (a : T) → PopsAt olds news place (a ∷ []) → place < length olds
   there_popped a pops = grind (arith, pops.popped place, beyond, only-here, same_length)
 
-module _ {W B R D : ℕ} (s : CacheSide W B R D) (place : ℕ) where
+module _ (s : CacheSide) (place : ℕ) where
   -- the ports' asks were looked at
   pub asks_looked : (news : List (Popper Ask)) (tellings : List (Pusher Told))
       → PopsAt s.asks.items news place [] → LooksAt s.tellings.items tellings → OnlyLooks (state_of s) (record (state_of s) {
@@ -99,7 +99,7 @@ not_idle_at_work : (source : Source) (s t : SideState) (result : Stepped) → St
 not_idle_at_work source s t result m work e = grind (arith, work_stays, s.known, m.looks)
 
 -- the step of a side that isn't refused
-pub side_steps : {W B R D : ℕ} (source : Source) (old new : CacheSide W B R D) (result : Stepped) → refusal_of (state_of old) ≡ None
+pub side_steps : (source : Source) (old new : CacheSide) (result : Stepped) → refusal_of (state_of old) ≡ None
     → StepMakes source (state_of old) (state_of new) result → cache_id new ≡ cache_id old → SideSteps source old new result
 side_steps source old new result none makes same = record {
   refused = rw none tt;

@@ -34,7 +34,7 @@ pub arrive_silent : (z : Sizes) (c : Cache) (slot i : ℕ) (word : Word) → (ar
 unfolding arrive_step
 arrive_silent z c slot i word = grind arith
 
-module _ {W B R D : ℕ} (s : CacheSide W B R D) (news : List (Popper BankAnswer)) (bank : ℕ) (a : BankAnswer)
+module _ (s : CacheSide) (news : List (Popper BankAnswer)) (bank : ℕ) (a : BankAnswer)
     (pops : PopsAt s.answers.items news bank (a ∷ [])) where
   abbrev sent : ℕ → List Command
   sent = sent_at s.row.lines.items
@@ -59,21 +59,18 @@ module _ {W B R D : ℕ} (s : CacheSide W B R D) (news : List (Popper BankAnswer
   looks = grind (arith, append-nil, pops.known)
 
   -- the stack has room
-  module _ (room : length s.unit.cache.stack < D) where
-    in_depth : length s.unit.cache.stack < s.unit.sizes.depth
-    in_depth = grind arith
-
+  module _ (room : length s.unit.cache.stack < s.unit.sizes.depth) where
     pub works : has_work (sources.Word bank) (state_of s) looked ≡ true
     works = grind (arith, only-here)
 
     pub refused_here : (arrive_step s.unit.sizes s.unit.cache a.slot a.i a.word).answer ≢ Moved → IsRefused s.unit.sizes s.unit.cache a
-    refused_here = refused s.unit.sizes s.unit.cache a in_depth
+    refused_here = refused s.unit.sizes s.unit.cache a room
 
   pub work_is : work_of (sources.Word bank) (state_of s) looked ≡ arrives (state_of s) bank a (word_fault (state_of s) bank a)
   work_is = grind (arith, only-here)
 
   -- a word that is a fault is lost
-  pub loses : (fault : SideFault) (u : UnitState) → length s.unit.cache.stack < D
+  pub loses : (fault : SideFault) (u : UnitState) → length s.unit.cache.stack < s.unit.sizes.depth
       → word_fault (state_of s) bank a ≡ Some fault → u.cache ≡ s.unit.cache
       → StepMakes (sources.Word bank) (state_of s) (record (state_of s) {
         sizes = u.sizes;

@@ -18,7 +18,7 @@ use Rattle.station_parts.specs.Words.{cache_in, asked_at, told_at, commands_at, 
 
 -- ---- at each ring, what was received and then what is known is what was sent
 
-pub record IsSeen {W B R D : ℕ} (cache : CacheSide W B R D) (ports : List Port) (banks : List BankSide) : Type 0 where
+pub record IsSeen (cache : CacheSide) (ports : List Port) (banks : List BankSide) : Type 0 where
   pub asks : map come_to cache.asks.items ≡ map offered ports
   pub told : map told_in_all ports ≡ map sent cache.tellings.items
   pub commands : map commanded banks ≡ map sent_over cache.row.lines.items
@@ -34,7 +34,7 @@ line_places line = known_free line.ring
 abbrev pub AreAtMost : List ℕ → List ℕ → Type 0
 AreAtMost xs ys = (p : ℕ) → slice_index_or xs p 0 ≤ slice_index_or ys p 0
 
-pub record LeavesCache {W B R D : ℕ} (old new : CacheSide W B R D) : Type 0 where
+pub record LeavesCache (old new : CacheSide) : Type 0 where
   pub journal : journal_of new ≡ journal_of old
   pub earlier : earlier_of new ≡ earlier_of old
   pub held : held_of new ≡ held_of old
@@ -73,7 +73,7 @@ first_ring None None None (Some bank) = Some (Answers bank)
 first_ring None None None None = None
 
 -- the first ring that is known to hold an item: asks by port, tellings by port, commands by bank, answers by bank
-abbrev pub first_left : {W B R D : ℕ} → CacheSide W B R D → List Port → List BankSide → Option Ring
+abbrev pub first_left : CacheSide → List Port → List BankSide → Option Ring
 first_left cache ports banks =
     first_ring (position (λ c. holds_item (known_items c)) cache.asks.items) (position (λ p. holds_item (known_tellings p)) ports)
     (position (λ b. holds_item (known_commands b)) banks) (position (λ c. holds_item (known_items c)) cache.answers.items)
@@ -85,6 +85,6 @@ finding None (Some ring) count = Left ring
 finding None None zero = Clean
 finding None None (suc count) = Owed (suc count)
 
-abbrev pub audit_of : {W B R D : ℕ} → CacheSide W B R D → List Port → List BankSide → Audit
+abbrev pub audit_of : CacheSide → List Port → List BankSide → Audit
 audit_of cache ports banks =
     finding (fault_in cache) (first_left cache ports banks) (length (tags (cache_in cache)))

@@ -37,7 +37,7 @@ pub record CacheId : Type 0 where
   pub sizes : Sizes
   pub limit : ℕ
 
-abbrev pub cache_id : {W B R D : ℕ} → CacheSide W B R D → CacheId
+abbrev pub cache_id : CacheSide → CacheId
 cache_id c =
     record {
       asks = map pops_from c.asks.items;

@@ -8,7 +8,6 @@ use Rattle.rtrb.specs.declared.producer.Producer.{Producer}
 use Rattle.rtrb.specs.declared.consumer.Consumer.{Consumer}
 use Rattle.rtrb.specs.declared.AnyItems.{AnyItems}
 use Rattle.flat_model.specs.Words.{zero_word}
-use Rattle.flat_model.specs.declared.Shape.{Shape}
 use Rattle.flat_model.specs.declared.ShapeField.{ShapeField}
 use Rattle.flat_model.specs.declared.ShapeField.TheVariants.{Ports, Journal}
 use Rattle.flat_model.specs.Ranges.{is_between}
@@ -32,11 +31,19 @@ use Rattle.station_parts.specs.Words.{offered, offered_before, taken, known_plac
 use Rattle.station_parts.specs.Words.{known_commands, answer_places, journal_of, journal_limit, fault_in, sizes_in, cache_in, ports_in}
 use Rattle.station_parts.specs.Words.{asked_at, told_at, known_asks, telling_places, commands_at, words_at, known_words, command_places}
 
+-- the first of the station's own numbers that is out of its range
+abbrev pub bad_count : ℕ → ℕ → Option ShapeField
+bad_count ports journal =
+    if not (is_between ports 1 MAX_PORTS) then Some Ports
+    else (if not (is_between journal 1 MAX_ENTRIES) then Some Journal else None)
+
 -- the first number that is out of its range: those of the unit, then the ports, then the journal
+abbrev pub bad_size : Sizes → ℕ → ℕ → Option ShapeField
+bad_size z ports journal = option_or (limits.bad_size z) (bad_count ports journal)
+
+-- the same where four numbers of the unit stand in a type
 abbrev pub bad_field : Sizes → ℕ → ℕ → Option ShapeField
-bad_field z ports journal =
-    option_or (limits.bad_field z) (if not (is_between ports 1 MAX_PORTS) then Some Ports
-    else (if not (is_between journal 1 MAX_ENTRIES) then Some Journal else None))
+bad_field z ports journal = option_or (limits.bad_field z) (bad_count ports journal)
 
 pub record IsNewPort (p : Port) : Type 0 where
   pub offered : offered p ≡ []
@@ -52,7 +59,7 @@ pub record IsNewBank (queue : ℕ) (b : BankSide) : Type 0 where
   pub commands : known_commands b ≡ []
   pub places : answer_places b ≡ queue
 
-pub record IsNewCache {W B R D : ℕ} (z : Sizes) (count entries : ℕ) (c : CacheSide W B R D) : Type 0 where
+pub record IsNewCache (z : Sizes) (count entries : ℕ) (c : CacheSide) : Type 0 where
   pub journal : journal_of c ≡ []
   pub limit : journal_limit c ≡ entries
   pub fault : fault_in c ≡ None
@@ -69,7 +76,7 @@ pub record IsNewCache {W B R D : ℕ} (z : Sizes) (count entries : ℕ) (c : Cac
   pub command_places : (b : ℕ) → b < z.banks → command_places c b ≡ z.bank_queue
 
 -- the parts of a station with so many ports and so many places in its journal, as it was made
-pub record IsNewStation {W B R D : ℕ} (z : Sizes) (count entries : ℕ) (c : CacheSide W B R D) (ps : List Port)
+pub record IsNewStation (z : Sizes) (count entries : ℕ) (c : CacheSide) (ps : List Port)
     (bs : List BankSide) : Type 0 where
   pub one : AreOneStation c ps bs
   pub number : length ps ≡ count
@@ -101,12 +108,12 @@ pub record IsNewLine (places : ℕ) (l : Line) : Type 0 where
   pub taken : l.taken ≡ 0
 
 -- so far these banks, and the cache side's ends of their rings
-pub record AreNewBanks (s : Shape) (banks : List BankSide) (lines : List Line)
+pub record AreNewBanks (z : Sizes) (banks : List BankSide) (lines : List Line)
     (answers : List (Consumer BankAnswer Global AnyItems)) : Type 0 where
   pub command_rings : map (λ (b : BankId). b.commands) (map bank_id banks) ≡ map line_ring lines
   pub answer_rings : map (λ (b : BankId). b.answers) (map bank_id banks) ≡ map pops_from answers
-  pub words : map (λ (b : BankId). b.words) (map bank_id banks) ≡ map (λ b. length (share_of (replicate s.words zero_word) s.banks b))
+  pub words : map (λ (b : BankId). b.words) (map bank_id banks) ≡ map (λ b. length (share_of (replicate z.words zero_word) z.banks b))
       (range_with_len 0 (length banks))
-  pub each_bank : All (IsNewBank s.bank_queue) banks
-  pub each_line : All (IsNewLine s.bank_queue) lines
+  pub each_bank : All (IsNewBank z.bank_queue) banks
+  pub each_line : All (IsNewLine z.bank_queue) lines
   pub each_answers : All IsNewPopper answers

@@ -71,7 +71,7 @@ HoldFlat z entries banks =
 -- ---- behind an audit
 
 -- it has found this
-pub record IsAudited {W B R D : ℕ} (cache : CacheSide W B R D) (ports : List Port) (banks : List BankSide) (found : Audit) : Type 0 where
+pub record IsAudited (cache : CacheSide) (ports : List Port) (banks : List BankSide) (found : Audit) : Type 0 where
   -- each popping end knows all items of its ring, and the answer is by these
   pub seen : IsSeen cache ports banks
   pub exact : found ≡ audit_of cache ports banks
@@ -84,11 +84,11 @@ pub record IsAudited {W B R D : ℕ} (cache : CacheSide W B R D) (ports : List P
   pub judged : AreJudged (journal_of cache)
 
 -- it has found that nothing is left and nothing owed
-pub record IsFoundClean {W B R D : ℕ} (cache : CacheSide W B R D) (ports : List Port) (banks : List BankSide) : Type 0 where
+pub record IsFoundClean (cache : CacheSide) (ports : List Port) (banks : List BankSide) : Type 0 where
   pub audited : IsAudited cache ports banks Clean
   pub whole : AreWhole (journal_of cache) ports
   pub paid : PaysLoads (sizes_in cache) (journal_of cache)
   pub settled : IsTrue (is_clean (cache_in cache)) → HoldFlat (sizes_in cache) (journal_of cache) banks
 
-abbrev pub IsCleanStation : {W B R D : ℕ} → Station W B R D → Type 0
+abbrev pub IsCleanStation : Station → Type 0
 IsCleanStation s = IsFoundClean s.cache s.ports.items s.banks.items

@@ -15,11 +15,11 @@ use Rattle.station_parts.specs.Words.{command_places}
 use Rattle.station_parts.specs.Audited.{AreAtMost, LeavesCache, LeavesPorts, audit_of}
 
 -- how many entries the side has noted in all once one journal more is full
-abbrev pub noted_after : {W B R D : ℕ} → CacheSide W B R D → ℕ
+abbrev pub noted_after : CacheSide → ℕ
 noted_after c = length (journal_of c) + journal_limit c
 
 -- the segment at hand is handed out, and the side goes on as it stood
-pub record RenewsCache {W B R D : ℕ} (old new : CacheSide W B R D) (segment : List Entry) : Type 0 where
+pub record RenewsCache (old new : CacheSide) (segment : List Entry) : Type 0 where
   pub segment_is : segment ≡ held_of old
   -- it stands behind those that were handed out before, an empty one is begun, and in all it is the same journal
   pub earlier : earlier_of new ≡ earlier_of old ++ segment
@@ -36,7 +36,7 @@ pub record RenewsCache {W B R D : ℕ} (old new : CacheSide W B R D) (segment : 
   pub for_commands : (b : ℕ) → command_places old b ≤ command_places new b
 
 -- all of the side but its journal is as it was
-pub record GoesOn {W B R D : ℕ} (old new : CacheSide W B R D) : Type 0 where
+pub record GoesOn (old new : CacheSide) : Type 0 where
   pub unit : new.unit ≡ old.unit
   pub asks : new.asks ≡ old.asks
   pub tellings : new.tellings ≡ old.tellings
@@ -56,7 +56,7 @@ pub record ResumesPorts (old new : List Port) : Type 0 where
 
 -- why nothing was handed out: where too many entries would be noted, or memory is short, nothing has changed; else an
 -- audit that found something has looked, and nothing else has changed
-abbrev pub IsRefused : {W B R D : ℕ} → RenewFault → CacheSide W B R D → CacheSide W B R D → List Port → List Port → List BankSide
+abbrev pub IsRefused : RenewFault → CacheSide → CacheSide → List Port → List Port → List BankSide
     → List BankSide → Type 0
 IsRefused WornOut cache cache' ports ports' banks banks' =
     (MAX_NOTED < noted_after cache) × (cache' ≡ cache) × (ports' ≡ ports) × (banks' ≡ banks)

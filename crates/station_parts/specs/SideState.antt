@@ -44,7 +44,7 @@ pub record SideState : Type 0 where
   pub words : ℕ → List BankAnswer
   pub known : Known
 
-abbrev pub state_of : {W B R D : ℕ} → CacheSide W B R D → SideState
+abbrev pub state_of : CacheSide → SideState
 state_of side =
     record {
       sizes = sizes_in side;

@@ -189,7 +189,7 @@ pub record StepMakes (source : Source) (old new : SideState) (result : Stepped) 
 
 -- one step of the cache side: it is refused, and then the side stays as it is, or makes what its source's work makes. It isn't idle if
 -- there was work before it looked
-pub record SideSteps {W B R D : ℕ} (source : Source) (old new : CacheSide W B R D) (result : Stepped) : Type 0 where
+pub record SideSteps (source : Source) (old new : CacheSide) (result : Stepped) : Type 0 where
   pub refused : IfSome (refusal_of (state_of old)) (λ refusal. (result ≡ refusal) × (new ≡ old))
   pub makes : IfNone (refusal_of (state_of old)) (StepMakes source (state_of old) (state_of new) result)
   pub busy : IsTrue (has_work source (state_of old) (state_of old).known) → result ≢ Idle

@@ -23,27 +23,27 @@ pub record BelongTogether (cache : CacheId) (ports : List PortId) (banks : List 
 
 -- the parts are those of one station, in the order of their numbers. It speaks of what parts keep, so a call on a
 -- part, which leaves the part's id as it is, leaves this as it is
-abbrev pub AreOneStation : {W B R D : ℕ} → CacheSide W B R D → List Port → List BankSide → Type 0
+abbrev pub AreOneStation : CacheSide → List Port → List BankSide → Type 0
 AreOneStation cache ports banks = BelongTogether (cache_id cache) (map port_id ports) (map bank_id banks)
 
-abbrev pub IsOneStation : {W B R D : ℕ} → Station W B R D → Type 0
+abbrev pub IsOneStation : Station → Type 0
 IsOneStation s = AreOneStation s.cache s.ports.items s.banks.items
 
 -- they are the same parts of one station, moved by their own calls
-pub record AreSameParts {W B R D : ℕ} (c c' : CacheSide W B R D) (ps ps' : List Port) (bs bs' : List BankSide) : Type 0 where
+pub record AreSameParts (c c' : CacheSide) (ps ps' : List Port) (bs bs' : List BankSide) : Type 0 where
   pub cache : cache_id c' ≡ cache_id c
   pub ports : map port_id ps' ≡ map port_id ps
   pub banks : map bank_id bs' ≡ map bank_id bs
   pub one : AreOneStation c' ps' bs'
 
-abbrev pub IsSameStation : {W B R D : ℕ} → Station W B R D → Station W B R D → Type 0
+abbrev pub IsSameStation : Station → Station → Type 0
 IsSameStation old new = AreSameParts old.cache new.cache old.ports.items new.ports.items old.banks.items new.banks.items
 
 -- they are as they were
-pub record AreUnmoved {W B R D : ℕ} (c c' : CacheSide W B R D) (ps ps' : List Port) (bs bs' : List BankSide) : Type 0 where
+pub record AreUnmoved (c c' : CacheSide) (ps ps' : List Port) (bs bs' : List BankSide) : Type 0 where
   pub cache : c' ≡ c
   pub ports : ps' ≡ ps
   pub banks : bs' ≡ bs
 
-abbrev pub IsUnmoved : {W B R D : ℕ} → Station W B R D → Station W B R D → Type 0
+abbrev pub IsUnmoved : Station → Station → Type 0
 IsUnmoved old new = AreUnmoved old.cache new.cache old.ports.items new.ports.items old.banks.items new.banks.items

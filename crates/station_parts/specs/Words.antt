@@ -94,61 +94,60 @@ raw_places b = known_free b.answers
 
 -- ---- the cache side
 
-module _ {W B R D : ℕ} where
-  -- the entries that were handed out, oldest first, and those that were noted since
-  abbrev pub earlier_of : CacheSide W B R D → List Entry
-  earlier_of c = whole_of c.earlier.values
+-- the entries that were handed out, oldest first, and those that were noted since
+abbrev pub earlier_of : CacheSide → List Entry
+earlier_of c = whole_of c.earlier.values
 
-  abbrev pub held_of : CacheSide W B R D → List Entry
-  held_of c = c.journal.items
+abbrev pub held_of : CacheSide → List Entry
+held_of c = c.journal.items
 
-  -- all that it has noted of its steps, oldest first
-  abbrev pub journal_of : CacheSide W B R D → List Entry
-  journal_of c = earlier_of c ++ held_of c
+-- all that it has noted of its steps, oldest first
+abbrev pub journal_of : CacheSide → List Entry
+journal_of c = earlier_of c ++ held_of c
 
-  -- how many entries it holds at most
-  abbrev pub journal_limit : CacheSide W B R D → ℕ
-  journal_limit c = c.limit
+-- how many entries it holds at most
+abbrev pub journal_limit : CacheSide → ℕ
+journal_limit c = c.limit
 
-  -- why it does nothing more, if it is faulted
-  abbrev pub fault_in : CacheSide W B R D → Option SideFault
-  fault_in c = c.fault
+-- why it does nothing more, if it is faulted
+abbrev pub fault_in : CacheSide → Option SideFault
+fault_in c = c.fault
 
-  -- the numbers of its shape, and its unit
-  abbrev pub sizes_in : CacheSide W B R D → Sizes
-  sizes_in c = c.unit.sizes
+-- the numbers of its shape, and its unit
+abbrev pub sizes_in : CacheSide → Sizes
+sizes_in c = c.unit.sizes
 
-  abbrev pub cache_in : CacheSide W B R D → Cache
-  cache_in c = c.unit.cache
+abbrev pub cache_in : CacheSide → Cache
+cache_in c = c.unit.cache
 
-  -- how many ports it has
-  abbrev pub ports_in : CacheSide W B R D → ℕ
-  ports_in c = length c.asks.items
+-- how many ports it has
+abbrev pub ports_in : CacheSide → ℕ
+ports_in c = length c.asks.items
 
-  -- the asks of a port that it has taken, and what it has told the port
-  abbrev pub asked_at : CacheSide W B R D → ℕ → List Ask
-  asked_at c p = received_at c.asks.items p
+-- the asks of a port that it has taken, and what it has told the port
+abbrev pub asked_at : CacheSide → ℕ → List Ask
+asked_at c p = received_at c.asks.items p
 
-  abbrev pub told_at : CacheSide W B R D → ℕ → List Told
-  told_at c p = pushed_at c.tellings.items p
+abbrev pub told_at : CacheSide → ℕ → List Told
+told_at c p = pushed_at c.tellings.items p
 
-  -- the asks of a port that it knows of, and for how many more tellings it knows a free place
-  abbrev pub known_asks : CacheSide W B R D → ℕ → List Ask
-  known_asks c p = known_at c.asks.items p
+-- the asks of a port that it knows of, and for how many more tellings it knows a free place
+abbrev pub known_asks : CacheSide → ℕ → List Ask
+known_asks c p = known_at c.asks.items p
 
-  abbrev pub telling_places : CacheSide W B R D → ℕ → ℕ
-  telling_places c p = room_at c.tellings.items p
+abbrev pub telling_places : CacheSide → ℕ → ℕ
+telling_places c p = room_at c.tellings.items p
 
-  -- the commands that it has sent to a bank, and the words of the bank that it has taken
-  abbrev pub commands_at : CacheSide W B R D → ℕ → List Command
-  commands_at c b = sent_at c.row.lines.items b
+-- the commands that it has sent to a bank, and the words of the bank that it has taken
+abbrev pub commands_at : CacheSide → ℕ → List Command
+commands_at c b = sent_at c.row.lines.items b
 
-  abbrev pub words_at : CacheSide W B R D → ℕ → List BankAnswer
-  words_at c b = popped_at c.answers.items b
+abbrev pub words_at : CacheSide → ℕ → List BankAnswer
+words_at c b = popped_at c.answers.items b
 
-  -- for how many more commands to a bank it knows a free place, and the bank's words that it knows of
-  abbrev pub command_places : CacheSide W B R D → ℕ → ℕ
-  command_places c b = free_at c.row.lines.items b
+-- for how many more commands to a bank it knows a free place, and the bank's words that it knows of
+abbrev pub command_places : CacheSide → ℕ → ℕ
+command_places c b = free_at c.row.lines.items b
 
-  abbrev pub known_words : CacheSide W B R D → ℕ → List BankAnswer
-  known_words c b = known_at c.answers.items b
+abbrev pub known_words : CacheSide → ℕ → List BankAnswer
+known_words c b = known_at c.answers.items b

@@ -8,7 +8,7 @@ ghost use Rattle.station_journal.specs.declared.asks.Told.TheVariants.{Value};
 ghost use Rattle.station_parts.specs.Asking.{event_for, asked_step, MakesStep};
 
 use crate::lines::Row;
-use cache_unit::{CacheUnit, Request};
+use cache_unit::{Request, ShapedUnit};
 use flat_model::{Answer, Event, Word};
 use station_journal::{Ask, PORT_TAGS, Source, Told};
 
@@ -39,12 +39,7 @@ pub(crate) fn event_for(port: u32, ask: Ask) -> Event
 }
 
 /// Asks the unit, which sends its reads over the row.
-pub(crate) fn answer_ask<
-    const WAYS: usize,
-    const WORDS: usize,
-    const REGS: usize,
-    const DEPTH: usize,
->(unit: &mut CacheUnit<WAYS, WORDS, REGS, DEPTH>, row: &mut Row, port: u32, ask: Ask) -> Answer
+pub(crate) fn answer_ask(unit: &mut ShapedUnit, row: &mut Row, port: u32, ask: Ask) -> Answer
     requires few_ports { port < MAX_PORTS }
     requires not_done { ask ≢ Ask.Done }
     ensures { MakesStep

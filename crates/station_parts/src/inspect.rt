@@ -35,11 +35,7 @@ use station_journal::{Ask, Told};
 /// The journal is then a run of flat memory from zeros, and each port's part of it what the port offered and
 /// took. After `Clean` it has all that was offered and told, and nothing is due. If the cache side is settled
 /// too, the banks hold flat memory.
-pub fn audit<const WAYS: usize, const WORDS: usize, const REGS: usize, const DEPTH: usize>(
-    cache: &mut CacheSide<WAYS, WORDS, REGS, DEPTH>,
-    ports: &mut [Port],
-    banks: &mut [BankSide],
-) -> Audit
+pub fn audit(cache: &mut CacheSide, ports: &mut [Port], banks: &mut [BankSide]) -> Audit
     requires { AreOneStation cache.old ports.old banks.old }
 
     ensures same { AreSameParts cache.old cache.new ports.old ports.new banks.old banks.new }
@@ -58,11 +54,7 @@ pub fn audit<const WAYS: usize, const WORDS: usize, const REGS: usize, const DEP
     found(cache, ports, banks)
 }
 
-fn look_everywhere<const WAYS: usize, const WORDS: usize, const REGS: usize, const DEPTH: usize>(
-    cache: &mut CacheSide<WAYS, WORDS, REGS, DEPTH>,
-    ports: &mut [Port],
-    banks: &mut [BankSide],
-)
+fn look_everywhere(cache: &mut CacheSide, ports: &mut [Port], banks: &mut [BankSide])
     requires { AreOneStation cache.old ports.old banks.old }
     ensures same { AreSameParts cache.old cache.new ports.old ports.new banks.old banks.new }
     ensures cache { LeavesCache cache.old cache.new }
@@ -207,11 +199,7 @@ fn look_answer(bank: &mut BankSide, answers: &mut Consumer<BankAnswer>)
     answers.slots_beside(&mut bank.answers);
 }
 
-fn found<const WAYS: usize, const WORDS: usize, const REGS: usize, const DEPTH: usize>(
-    cache: &CacheSide<WAYS, WORDS, REGS, DEPTH>,
-    ports: &[Port],
-    banks: &[BankSide],
-) -> Audit
+fn found(cache: &CacheSide, ports: &[Port], banks: &[BankSide]) -> Audit
     requires ports { length ports.now ≤ MAX_PORTS }
     requires banks { length banks.now ≤ MAX_BANKS }
     ensures { result ≡ audit_of cache.now ports.now banks.now }
@@ -228,11 +216,7 @@ fn found<const WAYS: usize, const WORDS: usize, const REGS: usize, const DEPTH: 
     }
 }
 
-fn first_left<const WAYS: usize, const WORDS: usize, const REGS: usize, const DEPTH: usize>(
-    cache: &CacheSide<WAYS, WORDS, REGS, DEPTH>,
-    ports: &[Port],
-    banks: &[BankSide],
-) -> Option<Ring>
+fn first_left(cache: &CacheSide, ports: &[Port], banks: &[BankSide]) -> Option<Ring>
     requires ports { length ports.now ≤ MAX_PORTS }
     requires banks { length banks.now ≤ MAX_BANKS }
     ensures { result ≡ first_left cache.now ports.now banks.now }

@@ -30,7 +30,7 @@ mod views;
 pub use bank::BankSide;
 pub use ends::Look;
 pub use inspect::audit;
-pub use make::{MAX_ENTRIES, MAX_NOTED, MAX_PORTS, station};
+pub use make::{MAX_ENTRIES, MAX_NOTED, MAX_PORTS, shaped_station, station};
 pub use parts::{Audit, CacheSide, Ring, Station, Stepped};
 pub use port::{ASK_PLACES, Port, TELLING_PLACES};
 pub use raw::RawBank;

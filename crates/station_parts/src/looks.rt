@@ -7,16 +7,11 @@ ghost use Rattle.station_parts.specs.Words.{known_asks, telling_places, known_wo
 
 use crate::ends::{Look, count_at, knows_item, look_at, look_each, peek_at};
 use crate::parts::CacheSide;
-use cache_unit::CacheUnit;
+use cache_unit::ShapedUnit;
 use memory_banks::BankAnswer;
 use station_journal::{Ask, Source};
 
-impl<const WAYS: usize, const WORDS: usize, const REGS: usize, const DEPTH: usize> CacheSide<
-    WAYS,
-    WORDS,
-    REGS,
-    DEPTH,
-> {
+impl CacheSide {
     /// Known asks of a port that aren't taken, after a look.
     pub fn known_asks(&mut self, port: u32) -> usize
         ensures looks { OnlyLooks (state_of self.old) (state_of self.new) }
@@ -73,7 +68,7 @@ impl<const WAYS: usize, const WORDS: usize, const REGS: usize, const DEPTH: usiz
     }
 
     /// The cache unit, to be seen.
-    pub fn unit(&self) -> &CacheUnit<WAYS, WORDS, REGS, DEPTH>
+    pub fn unit(&self) -> &ShapedUnit
         ensures { result.now ≡ record { sizes = sizes_in self.now; cache = cache_in self.now } }
     {
         &self.unit
@@ -94,7 +89,7 @@ impl<const WAYS: usize, const WORDS: usize, const REGS: usize, const DEPTH: usiz
         ensures looks { OnlyLooks (state_of self.old) (state_of self.new) }
         ensures same { cache_id self.new ≡ cache_id self.old }
     {
-        look_each(&mut self.answers, self.shape.banks);
+        look_each(&mut self.answers, self.sizes.banks);
     }
 
     /// Whether an item of the source is known, without a look. There may be no room for what its step

@@ -1,7 +1,6 @@
 //! The parts of a station.
 ghost use Rattle.std.specs.Prelude.{◌≡◌, ◌+◌, ◌≤◌, ◌++◌, ℕ, length, vec_capacity, None};
 ghost use Rattle.station_parts.specs.declared.make.TheConstants.{MAX_ENTRIES, MAX_NOTED, MAX_PORTS};
-ghost use Rattle.cache_law.specs.Shown.{sizes_of};
 ghost use Rattle.cache_law.specs.Sound.{InRange};
 ghost use Rattle.station_parts.specs.Rows.{sent_at, popped_at, taken_at};
 ghost use Rattle.station_journal.specs.Side.{SideTells};
@@ -12,8 +11,7 @@ use crate::bank::BankSide;
 use crate::lines::Row;
 use crate::past::Past;
 use crate::port::Port;
-use cache_unit::CacheUnit;
-use flat_model::Shape;
+use cache_unit::{ShapedUnit, Sizes};
 use memory_banks::BankAnswer;
 use rtrb::{Consumer, Producer};
 use station_journal::{Ask, Entry, SideFault, Told};
@@ -33,9 +31,9 @@ pub enum Stepped {
 
 /// The side of a station with the cache.
 #[derive(Drop)]
-pub struct CacheSide<const WAYS: usize, const WORDS: usize, const REGS: usize, const DEPTH: usize> {
-    pub(crate) shape: Shape,
-    pub(crate) unit: CacheUnit<WAYS, WORDS, REGS, DEPTH>,
+pub struct CacheSide {
+    pub(crate) sizes: Sizes,
+    pub(crate) unit: ShapedUnit,
     pub(crate) asks: Vec<Consumer<Ask>>,
     pub(crate) tellings: Vec<Producer<Told>>,
     pub(crate) row: Row,
@@ -46,7 +44,7 @@ pub struct CacheSide<const WAYS: usize, const WORDS: usize, const REGS: usize, c
     pub(crate) journal: Vec<Entry>,
     pub(crate) limit: u32,
     pub(crate) fault: Option<SideFault>,
-    ghost shaped: { unit.sizes ≡ sizes_of WAYS WORDS REGS DEPTH shape },
+    ghost shaped: { unit.sizes ≡ sizes },
     ghost in_range: { InRange unit.sizes },
     ghost lines: { length row.lines.items ≡ unit.sizes.banks },
     ghost ends: { length answers.items ≡ unit.sizes.banks },
@@ -65,9 +63,9 @@ pub struct CacheSide<const WAYS: usize, const WORDS: usize, const REGS: usize, c
 
 /// A cache side with its ports and banks, each in the order of their numbers.
 #[derive(Drop)]
-pub struct Station<const WAYS: usize, const WORDS: usize, const REGS: usize, const DEPTH: usize> {
+pub struct Station {
     /// The cache's side.
-    pub cache: CacheSide<WAYS, WORDS, REGS, DEPTH>,
+    pub cache: CacheSide,
     /// Those who ask it.
     pub ports: Vec<Port>,
     /// The banks of its memory.

@@ -52,9 +52,9 @@ impl From<AllocError> for RenewFault {
 ///
 /// Faults come in the order `WornOut`, `OutOfMemory`, `NotClean`, and change nothing, but that after `NotClean`
 /// more may be known of the rings' far ends.
-pub fn renew<const WAYS: usize, const WORDS: usize, const REGS: usize, const DEPTH: usize>(
+pub fn renew(
     alloc: Global,
-    cache: &mut CacheSide<WAYS, WORDS, REGS, DEPTH>,
+    cache: &mut CacheSide,
     ports: &mut [Port],
     banks: &mut [BankSide],
 ) -> Result<Vec<Entry>, RenewFault>
@@ -84,9 +84,7 @@ pub fn renew<const WAYS: usize, const WORDS: usize, const REGS: usize, const DEP
     }
 }
 
-fn is_worn_out<const WAYS: usize, const WORDS: usize, const REGS: usize, const DEPTH: usize>(
-    cache: &CacheSide<WAYS, WORDS, REGS, DEPTH>,
-) -> bool
+fn is_worn_out(cache: &CacheSide) -> bool
     ensures { result ≡ nat_lt MAX_NOTED (noted_after cache.now) }
 {
     cache.handed + cache.journal.len() as u64 + u64::from(cache.limit) > MAX_NOTED
@@ -107,10 +105,7 @@ fn resume_all(ports: &mut [Port])
     }
 }
 
-fn hand_out<const WAYS: usize, const WORDS: usize, const REGS: usize, const DEPTH: usize>(
-    cache: &mut CacheSide<WAYS, WORDS, REGS, DEPTH>,
-    fresh: Vec<Entry>,
-) -> Vec<Entry>
+fn hand_out(cache: &mut CacheSide, fresh: Vec<Entry>) -> Vec<Entry>
     requires empty { fresh.items ≡ [] }
     requires room { cache.old.limit ≤ vec_capacity fresh }
     requires lasts { noted_after cache.old ≤ MAX_NOTED }

@@ -7,14 +7,9 @@ ghost use Rattle.station_parts.specs.Rest.{is_at_rest};
 ghost use Rattle.station_parts.specs.Words.{cache_in};
 
 use crate::parts::CacheSide;
-use cache_unit::CacheUnit;
+use cache_unit::ShapedUnit;
 
-impl<const WAYS: usize, const WORDS: usize, const REGS: usize, const DEPTH: usize> CacheSide<
-    WAYS,
-    WORDS,
-    REGS,
-    DEPTH,
-> {
+impl CacheSide {
     /// Whether no accepted load waits for its value or has it ready, no register is valid, and the write
     /// queue is empty. Dirty lanes may remain.
     pub fn is_at_rest(&self) -> bool
@@ -24,14 +19,12 @@ impl<const WAYS: usize, const WORDS: usize, const REGS: usize, const DEPTH: usiz
     }
 }
 
-fn are_free<const WAYS: usize, const WORDS: usize, const REGS: usize, const DEPTH: usize>(
-    unit: &CacheUnit<WAYS, WORDS, REGS, DEPTH>,
-) -> bool
-    requires number { length unit.now.cache.registers ≡ REGS }
-    requires few { REGS ≤ MAX_REGS }
+fn are_free(unit: &ShapedUnit) -> bool
+    requires number { length unit.now.cache.registers ≡ unit.now.sizes.regs }
+    requires few { unit.now.sizes.regs ≤ MAX_REGS }
     ensures { result ≡ list_all (λ r. not r.valid) unit.now.cache.registers }
 {
-    for slot in 0..REGS as u32 {
+    for slot in 0..unit.sizes().regs {
         if is_valid(unit, slot) {
             return false;
         }
@@ -39,10 +32,7 @@ fn are_free<const WAYS: usize, const WORDS: usize, const REGS: usize, const DEPT
     true
 }
 
-fn is_valid<const WAYS: usize, const WORDS: usize, const REGS: usize, const DEPTH: usize>(
-    unit: &CacheUnit<WAYS, WORDS, REGS, DEPTH>,
-    slot: u32,
-) -> bool
+fn is_valid(unit: &ShapedUnit, slot: u32) -> bool
     ensures { result ≡ (register_at unit.now.cache slot).valid }
 {
     match unit.register(slot) {

@@ -11,12 +11,7 @@ use cache_unit::laws::each_step_makes_forms;
 use flat_model::{Answer, Event};
 use station_journal::{Ask, Entry, PORT_TAGS, SideFault, Source};
 
-impl<const WAYS: usize, const WORDS: usize, const REGS: usize, const DEPTH: usize> CacheSide<
-    WAYS,
-    WORDS,
-    REGS,
-    DEPTH,
-> {
+impl CacheSide {
     /// [`CacheSide::step_with`] with [`Look::All`].
     pub fn step(&mut self, source: Source) -> Stepped
         ensures { SideSteps source self.old self.new result }
@@ -88,7 +83,7 @@ impl<const WAYS: usize, const WORDS: usize, const REGS: usize, const DEPTH: usiz
         let Some(front) = self.unit.queue_entry(0) else {
             return Stepped::Idle;
         };
-        if self.row.look(front.at % self.shape.banks, look, 1) == 0 {
+        if self.row.look(front.at % self.sizes.banks, look, 1) == 0 {
             return Stepped::Idle;
         }
         each_step_makes_forms();
@@ -117,7 +112,8 @@ impl<const WAYS: usize, const WORDS: usize, const REGS: usize, const DEPTH: usiz
             self.journal.push_reserved(Entry::Ended { port });
             return Stepped::Did;
         }
-        self.row.look_all(self.shape.banks, look, WORDS);
+        self.row
+            .look_all(self.sizes.banks, look, self.sizes.block_words as usize);
         each_step_makes_forms();
         let answer = answer_ask(&mut self.unit, &mut self.row, port, ask);
         push_at(&mut self.tellings, port, verdict_of(answer));
@@ -159,7 +155,7 @@ impl<const WAYS: usize, const WORDS: usize, const REGS: usize, const DEPTH: usiz
         ensures makes { StepMakes (Source.Word bank) (state_of self.old) (state_of self.new) result }
         ensures same { cache_id self.new ≡ cache_id self.old }
     {
-        if self.unit.stack_len() as usize >= DEPTH {
+        if self.unit.stack_len() >= self.sizes.depth {
             return Stepped::Idle;
         }
         let Some(word) = pop_at(&mut self.answers, bank, look) else {

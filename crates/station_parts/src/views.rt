@@ -6,12 +6,7 @@ ghost use Rattle.station_parts.specs.Words.{held_of, fault_in, cache_in};
 use crate::parts::CacheSide;
 use station_journal::{Entry, SideFault};
 
-impl<const WAYS: usize, const WORDS: usize, const REGS: usize, const DEPTH: usize> CacheSide<
-    WAYS,
-    WORDS,
-    REGS,
-    DEPTH,
-> {
+impl CacheSide {
     /// Entries of the journal since it was begun, or renewed.
     pub fn entries(&self) -> u32
         ensures { result ≡ length (held_of self.now) }

@@ -13,7 +13,7 @@ use crate::fault::StationFault;
 use crate::soak::random_gate::RandomGate;
 use crate::soak::trial::{Draws, Trial};
 use ring_station::{
-    Ask, Crew, RunFault, Station, Told, audit, run_and_audit, run_threads, station,
+    Ask, Crew, RunFault, Sizes, Station, Told, audit, run_and_audit, run_threads, shaped_station,
 };
 use station_checks::{Findings, FindingsText, Outcome, read_journal};
 use std::alloc::{AllocError, Global};
@@ -184,45 +184,35 @@ fn run_any<R: AllocGlobal + Clock + Threads + Sync>(
     number: u32,
 ) -> Result<Looked, StationFault> {
     let mut draws = Draws::new(seed, number);
-    match number % 4 {
-        0 => run_trial::<R, 1, 1, 1, 1>(rt, &mut draws, 1),
-        1 => run_trial::<R, 8, 16, 16, 16>(rt, &mut draws, 16),
-        2 => run_trial::<R, 2, 4, 4, 4>(rt, &mut draws, 4),
-        _ => run_trial::<R, 3, 2, 5, 1>(rt, &mut draws, 2),
-    }
-}
-
-// Makes a station of drawn numbers, with so many words in a block, runs it, and looks at what the run
-// left.
-fn run_trial<
-    R: AllocGlobal + Clock + Threads + Sync,
-    const WAYS: usize,
-    const WORDS: usize,
-    const REGS: usize,
-    const DEPTH: usize,
->(rt: &R, draws: &mut Draws, block_words: u32) -> Result<Looked, StationFault> {
-    let trial = Trial::draw(draws, block_words);
-    let mut station: Station<WAYS, WORDS, REGS, DEPTH> = station(
-        rt.alloc(),
-        trial.shape,
-        trial.ports,
-        trial.journal,
-    )?;
-    run_and_look(rt, draws, &trial, &mut station)
+    let [ways, block_words, regs, depth] = match number % 4 {
+        0 => [1, 1, 1, 1],
+        1 => [16, 16, 64, 64],
+        2 => [2, 4, 4, 4],
+        _ => [3, 2, 5, 1],
+    };
+    let trial = Trial::draw(&mut draws, block_words);
+    let sizes = Sizes {
+        ways,
+        block_words,
+        regs,
+        depth,
+        words: trial.shape.words,
+        sets: trial.shape.sets,
+        banks: trial.shape.banks,
+        bank_queue: trial.shape.bank_queue,
+        write_queue: trial.shape.write_queue,
+        replies: trial.shape.replies,
+    };
+    let mut station = shaped_station(rt.alloc(), &sizes, trial.ports, trial.journal)?;
+    run_and_look(rt, &mut draws, &trial, &mut station)
 }
 
 // Runs a new station, and looks at what the run left.
-fn run_and_look<
-    R: AllocGlobal + Clock + Threads + Sync,
-    const WAYS: usize,
-    const WORDS: usize,
-    const REGS: usize,
-    const DEPTH: usize,
->(
+fn run_and_look<R: AllocGlobal + Clock + Threads + Sync>(
     rt: &R,
     draws: &mut Draws,
     trial: &Trial,
-    station: &mut Station<WAYS, WORDS, REGS, DEPTH>,
+    station: &mut Station,
 ) -> Result<Looked, StationFault>
     requires one { AreOneStation station.old.cache station.old.ports.items station.old.banks.items }
     requires ports { vec_len station.old.ports ≡ trial.now.ports }
@@ -240,17 +230,11 @@ fn run_and_look<
 type Lists = Option<Vec<Vec<Told>>>;
 
 // Runs a new station with scripts and a gate that are drawn.
-fn run_drawn<
-    R: AllocGlobal + Clock + Threads + Sync,
-    const WAYS: usize,
-    const WORDS: usize,
-    const REGS: usize,
-    const DEPTH: usize,
->(
+fn run_drawn<R: AllocGlobal + Clock + Threads + Sync>(
     rt: &R,
     draws: &mut Draws,
     trial: &Trial,
-    station: &mut Station<WAYS, WORDS, REGS, DEPTH>,
+    station: &mut Station,
 ) -> Result<Lists, StationFault>
     requires one { AreOneStation station.old.cache station.old.ports.items station.old.banks.items }
     requires ports { vec_len station.old.ports ≡ trial.now.ports }
@@ -263,15 +247,9 @@ fn run_drawn<
 }
 
 // Runs a station on the threads of a crew, or on one for each part.
-fn run_by<
-    R: AllocGlobal + Clock + Threads + Sync,
-    const WAYS: usize,
-    const WORDS: usize,
-    const REGS: usize,
-    const DEPTH: usize,
->(
+fn run_by<R: AllocGlobal + Clock + Threads + Sync>(
     rt: &R,
-    station: &mut Station<WAYS, WORDS, REGS, DEPTH>,
+    station: &mut Station,
     scripts: &[Vec<Ask>],
     turns: u64,
     crew: Option<Crew>,
@@ -303,9 +281,9 @@ fn lists_of(ran: Result<Vec<Vec<Told>>, RunFault>) -> Result<Lists, StationFault
 }
 
 // What a run left of a station with so many words of memory.
-fn look_at<const WAYS: usize, const WORDS: usize, const REGS: usize, const DEPTH: usize>(
+fn look_at(
     alloc: Global,
-    station: &mut Station<WAYS, WORDS, REGS, DEPTH>,
+    station: &mut Station,
     words: u32,
     lists: Option<&[Vec<Told>]>,
 ) -> Result<Findings, AllocError>

@@ -44,8 +44,6 @@ const NOTHING_WRONG: Findings = Findings {
     are_told: Some(true),
 };
 
-type TourStation = Station<WAYS, BLOCK_WORDS, REGS, DEPTH>;
-
 /// What is written beside what changes from run to run.
 #[derive(Clone, Copy)]
 pub(crate) struct Pages {
@@ -114,7 +112,12 @@ pub(crate) fn tour<R: AllocGlobal + Clock + Threads + Sync, S: Write, J: Write, 
         gate: PatientGate::new(alloc, PATIENCE)?,
     };
     let mut course = Course::new(alloc, plan)?;
-    let mut station: TourStation = station(alloc, shape(), plan.ports, ENTRIES)?;
+    let mut station = station::<WAYS, BLOCK_WORDS, REGS, DEPTH>(
+        alloc,
+        shape(),
+        plan.ports,
+        ENTRIES,
+    )?;
     tour_segments(
         rt,
         story,
@@ -133,7 +136,7 @@ fn tour_segments<R: AllocGlobal + Clock + Threads + Sync, S: Write, J: Write, E:
     journal: &mut J,
     errors: &mut E,
     setting: &Setting,
-    station: &mut TourStation,
+    station: &mut Station,
     course: &mut Course,
 ) -> Result<Findings, StationFault>
     requires one { AreOneStation station.old.cache station.old.ports.items station.old.banks.items }
@@ -159,7 +162,7 @@ fn tour_segment<R: AllocGlobal + Clock + Threads + Sync, S: Write, J: Write, E: 
     journal: &mut J,
     errors: &mut E,
     setting: &Setting,
-    station: &mut TourStation,
+    station: &mut Station,
     course: &mut Course,
 ) -> Result<Option<Findings>, StationFault>
     requires one { AreOneStation station.old.cache station.old.ports.items station.old.banks.items }
@@ -275,7 +278,7 @@ fn asks_of_a_port(plan: &Plan) -> u32
 #[tactic(auto, using(crate::proofs::Counting::as_many))]
 fn run_segment<R: AllocGlobal + Clock + Threads + Sync>(
     rt: &R,
-    station: &mut TourStation,
+    station: &mut Station,
     scripts: &[Vec<Ask>],
     setting: &Setting,
     course: &mut Course,

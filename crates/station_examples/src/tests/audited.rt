@@ -6,8 +6,8 @@ ghost use Rattle.station_parts.specs.Runs.{AreAnswered};
 ghost use Rattle.station_parts.specs.Words.{journal_of, sizes_in};
 
 use super::gates::{Rule, RuledGate};
-use super::{LOAD_5, SHAPE, SmallStation, TURNS, VALUE, scripts_of};
-use ring_station::{Ask, Audit, Gate, Told, audit, run_threads, station};
+use super::{LOAD_5, SHAPE, TURNS, VALUE, scripts_of};
+use ring_station::{Ask, Audit, Gate, Station, Told, audit, run_threads, station};
 use std::alloc::Global;
 use std::rt::Clock;
 use std::test::Fail;
@@ -15,7 +15,7 @@ use std::thread::Threads;
 
 #[derive(Drop)]
 struct Audited {
-    station: SmallStation,
+    station: Station,
     lists: Vec<Vec<Told>>,
     found: Audit,
 }
@@ -34,7 +34,7 @@ fn run_and_audit<R: Clock + Threads + Sync, G: Gate>(
     ensures paid { IfOk result (λ run. run.found ≡ Clean
         → PaysLoads (sizes_in run.station.cache) (journal_of run.station.cache)) }
 {
-    let mut all: SmallStation = station(alloc, SHAPE, 2, 1_000)?;
+    let mut all = station::<1, 4, 2, 2>(alloc, SHAPE, 2, 1_000)?;
     let lists = run_threads(rt, alloc, &mut all, scripts, TURNS, gate)?;
     let found = audit(&mut all.cache, &mut all.ports, &mut all.banks);
     Ok(Audited {

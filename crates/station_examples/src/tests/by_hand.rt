@@ -3,12 +3,12 @@ ghost use Rattle.std.specs.Prelude.{◌≡◌, vec_len, map};
 ghost use Rattle.station_parts.specs.Ids.{port_id, bank_id, cache_id};
 ghost use Rattle.station_parts.specs.Station.{AreOneStation};
 
-use super::{LOAD_5, SHAPE, SmallCache, SmallStation, VALUE, ZEROS};
+use super::{LOAD_5, SHAPE, VALUE, ZEROS};
 use flat_model::{Cause, Lanes, MakeFault, Word};
 use memory_banks::{BankAnswer, Command};
 use ring_station::{
-    Ask, Audit, BankSide, Port, RawBank, RenewFault, Ring, SideFault, Source, Station, Stepped,
-    Told, audit, renew, station,
+    Ask, Audit, BankSide, CacheSide, Port, RawBank, RenewFault, Ring, SideFault, Source, Station,
+    Stepped, Told, audit, renew, station,
 };
 use std::alloc::Global;
 use std::process::Abort;
@@ -560,7 +560,7 @@ fn serve(banks: &mut [BankSide], bank: usize) -> bool
 
 // Whether it comes out as it has to.
 fn make_move(
-    cache: &mut SmallCache,
+    cache: &mut CacheSide,
     port: &mut Port,
     banks: &mut [BankSide],
     raw: &mut Option<RawBank>,
@@ -584,7 +584,7 @@ fn make_move(
 
 // Up to the first that comes out otherwise.
 fn make_moves(
-    cache: &mut SmallCache,
+    cache: &mut CacheSide,
     port: &mut Port,
     banks: &mut [BankSide],
     raw: &mut Option<RawBank>,
@@ -603,7 +603,7 @@ fn make_moves(
 }
 
 fn make_stage(
-    cache: &mut SmallCache,
+    cache: &mut CacheSide,
     port: &mut Port,
     banks: &mut [BankSide],
     raw: &mut Option<RawBank>,
@@ -622,7 +622,7 @@ fn make_stage(
 }
 
 fn is_audited(
-    cache: &mut SmallCache,
+    cache: &mut CacheSide,
     ports: &mut [Port],
     banks: &mut [BankSide],
     wanted: Option<Audit>,
@@ -640,7 +640,7 @@ fn is_audited(
 
 fn is_renewed(
     alloc: Global,
-    cache: &mut SmallCache,
+    cache: &mut CacheSide,
     ports: &mut [Port],
     banks: &mut [BankSide],
     wanted: Option<Result<usize, RenewFault>>,
@@ -659,7 +659,7 @@ fn is_renewed(
     }
 }
 
-fn make_audited(alloc: Global, station: &mut SmallStation, stage: &Stage) -> bool
+fn make_audited(alloc: Global, station: &mut Station, stage: &Stage) -> bool
     requires one { AreOneStation station.old.cache station.old.ports.items station.old.banks.items }
     requires ports { vec_len station.old.ports ≡ 1 }
     ensures one { AreOneStation station.new.cache station.new.ports.items station.new.banks.items }
@@ -675,7 +675,7 @@ fn make_audited(alloc: Global, station: &mut SmallStation, stage: &Stage) -> boo
         && is_renewed(alloc, cache, ports, banks, stage.renewal)
 }
 
-fn walk(rt: &impl Abort, alloc: Global, station: &mut SmallStation, story: &Story)
+fn walk(rt: &impl Abort, alloc: Global, station: &mut Station, story: &Story)
     requires one { AreOneStation station.old.cache station.old.ports.items station.old.banks.items }
     requires ports { vec_len station.old.ports ≡ 1 }
 {
@@ -684,7 +684,7 @@ fn walk(rt: &impl Abort, alloc: Global, station: &mut SmallStation, story: &Stor
     }
 }
 
-fn walk_raw(rt: &impl Abort, station: &mut SmallStation, bank: usize, story: &Story)
+fn walk_raw(rt: &impl Abort, station: &mut Station, bank: usize, story: &Story)
     requires { vec_len station.old.ports ≡ 1 }
 {
     let Station {
@@ -707,7 +707,7 @@ fn end_of(
     alloc: Global,
     story: &Story,
 ) -> Result<(Option<SideFault>, bool), MakeFault> {
-    let mut all: SmallStation = station(alloc, SHAPE, 1, story.journal)?;
+    let mut all = station::<1, 4, 2, 2>(alloc, SHAPE, 1, story.journal)?;
     match story.raw {
         None => walk(rt, alloc, &mut all, story),
         Some(bank) => walk_raw(rt, &mut all, bank, story),

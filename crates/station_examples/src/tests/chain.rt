@@ -1,6 +1,6 @@
 //! A chain that is followed on a caller's own threads.
 use crate::chain::{Follower, Waits, follow_chain};
-use ring_station::{Audit, MAX_ENTRIES, Shape, Station, station};
+use ring_station::{Audit, MAX_ENTRIES, Shape, station};
 use std::test::Fail;
 
 // Eight blocks of four words, behind two frames.
@@ -22,7 +22,7 @@ const TURNS: u64 = u64::MAX;
 #[test]
 fn chain_on_threads(rt: HostRuntime) -> Result<(), Fail> {
     // Each repeated offer takes a place of the journal.
-    let mut all: Station<1, 4, 2, 2> = station(rt.alloc(), ONE_BANK, 1, MAX_ENTRIES)?;
+    let mut all = station::<1, 4, 2, 2>(rt.alloc(), ONE_BANK, 1, MAX_ENTRIES)?;
     let mut follower = Follower::new(5, 3);
     let (Some(mut port), Some(mut bank)) = (all.ports.pop(), all.banks.pop()) else {
         unreachable!()

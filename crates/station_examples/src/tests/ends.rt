@@ -3,10 +3,11 @@ ghost use Rattle.std.specs.Prelude.{◌≡◌, length, vec_len};
 ghost use Rattle.station_parts.specs.Station.{AreOneStation};
 
 use super::gates::{Rule, RuledGate};
-use super::{LOAD_5, SHAPE, SmallStation, TURNS, VALUE, scripts_of};
+use super::{LOAD_5, SHAPE, TURNS, VALUE, scripts_of};
 use flat_model::MakeFault;
 use ring_station::{
-    Actor, Ask, Audit, Crew, Ring, Run, ThreadEnd, ThreadFault, Told, run_and_audit, station,
+    Actor, Ask, Audit, Crew, Ring, Run, Station, ThreadEnd, ThreadFault, Told, run_and_audit,
+    station,
 };
 use std::alloc::{AllocError, Global};
 use std::process::Abort;
@@ -295,7 +296,7 @@ fn make_run<R: Abort + Clock + Threads + Sync>(
     row: &Ending,
 ) -> Result<bool, MakeFault> {
     let scripts = scripts_of(alloc, &row.scripts)?;
-    let mut all: SmallStation = station(alloc, SHAPE, 2, row.journal)?;
+    let mut all = station::<1, 4, 2, 2>(alloc, SHAPE, 2, row.journal)?;
     assert_eq!(rt; scripts.len(), all.ports.len());
     Ok(runs_as_said(rt, alloc, &mut all, &scripts, row)?)
 }
@@ -303,7 +304,7 @@ fn make_run<R: Abort + Clock + Threads + Sync>(
 fn runs_as_said<R: Clock + Threads + Sync>(
     rt: &R,
     alloc: Global,
-    all: &mut SmallStation,
+    all: &mut Station,
     scripts: &[Vec<Ask>],
     row: &Ending,
 ) -> Result<bool, AllocError>

@@ -36,9 +36,7 @@ const TOLD: [Told; 2] = [
     },
 ];
 
-type LargestStation = Station<8, 16, 16, 16>;
-
-fn ask_for_the_last(rt: &impl Abort, all: &mut LargestStation)
+fn ask_for_the_last(rt: &impl Abort, all: &mut Station)
     requires ports { vec_len all.old.ports ≡ 16 }
     requires banks { vec_len all.old.banks ≡ 16 }
 {
@@ -61,7 +59,7 @@ fn ask_for_the_last(rt: &impl Abort, all: &mut LargestStation)
 
 #[test]
 fn the_largest_station(rt: HostRuntime) -> Result<(), Fail> {
-    let mut all: LargestStation = station(rt.alloc(), LARGEST, 16, 1_048_576)?;
+    let mut all = station::<8, 16, 16, 16>(rt.alloc(), LARGEST, 16, 1_048_576)?;
     ask_for_the_last(&rt, &mut all);
     Ok(())
 }

@@ -4,10 +4,10 @@ ghost use Rattle.station_parts.specs.Station.{AreOneStation};
 
 use super::ends::are_lists;
 use super::gates::{Rule, RuledGate};
-use super::{LOAD_5, SHAPE, SmallStation, TURNS, VALUE, scripts_of};
+use super::{LOAD_5, SHAPE, TURNS, VALUE, scripts_of};
 use ring_station::{
-    Actor, Ask, Audit, Crew, Gate, RunFault, Segment, SegmentFault, Told, audit, run_and_renew,
-    run_in_segments, station,
+    Actor, Ask, Audit, Crew, Gate, RunFault, Segment, SegmentFault, Station, Told, audit,
+    run_and_renew, run_in_segments, station,
 };
 use std::alloc::Global;
 use std::process::Abort;
@@ -78,7 +78,7 @@ static LIMITED: [Limited; 4] = [
 fn run_once<R: Abort + Clock + Threads + Sync, G: Gate>(
     rt: &R,
     alloc: Global,
-    all: &mut SmallStation,
+    all: &mut Station,
     row: &Limited,
     turns: u64,
     gate: &G,
@@ -94,7 +94,7 @@ fn run_once<R: Abort + Clock + Threads + Sync, G: Gate>(
 fn run_by_asks<R: Abort + Clock + Threads + Sync, G: Gate>(
     rt: &R,
     alloc: Global,
-    all: &mut SmallStation,
+    all: &mut Station,
     rows: &[&[Ask]],
     turns: u64,
     gate: &G,
@@ -117,7 +117,7 @@ struct Left {
     is_clean: bool,
 }
 
-fn left_in(all: &mut SmallStation, fault: Option<SegmentFault>) -> Left
+fn left_in(all: &mut Station, fault: Option<SegmentFault>) -> Left
     requires { AreOneStation all.old.cache all.old.ports.items all.old.banks.items }
 {
     let found = audit(&mut all.cache, &mut all.ports, &mut all.banks);
@@ -135,7 +135,7 @@ fn left_at_once<R: Abort + Clock + Threads + Sync>(
     turns: u64,
     gate: &RuledGate,
 ) -> Result<Left, Fail> {
-    let mut all: SmallStation = station(alloc, SHAPE, 2, 1_000)?;
+    let mut all = station::<1, 4, 2, 2>(alloc, SHAPE, 2, 1_000)?;
     let fault = run_once(rt, alloc, &mut all, row, turns, gate)?;
     Ok(left_in(&mut all, fault))
 }
@@ -148,7 +148,7 @@ fn left_by_asks<R: Abort + Clock + Threads + Sync, G: Gate>(
     gate: &G,
     kept: &mut Vec<Segment>,
 ) -> Result<Left, Fail> {
-    let mut all: SmallStation = station(alloc, SHAPE, 2, 1_000)?;
+    let mut all = station::<1, 4, 2, 2>(alloc, SHAPE, 2, 1_000)?;
     let fault = run_by_asks(rt, alloc, &mut all, rows, turns, gate, kept)?;
     Ok(left_in(&mut all, fault))
 }

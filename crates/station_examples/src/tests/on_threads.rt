@@ -4,10 +4,11 @@ ghost use Rattle.station_parts.specs.Ids.{cache_id};
 ghost use Rattle.station_parts.specs.Station.{AreOneStation};
 
 use super::gates::{Rule, RuledGate};
-use super::{LOAD_5, SHAPE, SmallCache, SmallStation, TURNS, VALUE, scripts_of};
+use super::{LOAD_5, SHAPE, TURNS, VALUE, scripts_of};
 use flat_model::{Answer, Cause, Event, Lanes, MakeFault, Word};
 use ring_station::{
-    Actor, Ask, Audit, BankSide, Entry, RunFault, Source, Told, audit, run_threads, station,
+    Actor, Ask, Audit, BankSide, CacheSide, Entry, RunFault, Source, Station, Told, audit,
+    run_threads, station,
 };
 use std::alloc::Global;
 use std::process::Abort;
@@ -326,7 +327,7 @@ fn has_ended(ended: &Result<Vec<Vec<Told>>, RunFault>, run: &Run) -> bool {
     }
 }
 
-fn step_on(cache: &mut SmallCache, sources: &[Source])
+fn step_on(cache: &mut CacheSide, sources: &[Source])
     ensures { cache_id cache.new ≡ cache_id cache.old }
 {
     for source in sources {
@@ -336,7 +337,7 @@ fn step_on(cache: &mut SmallCache, sources: &[Source])
 
 #[derive(Clone, Copy)]
 struct Behind<'a> {
-    cache: &'a SmallCache,
+    cache: &'a CacheSide,
     banks: &'a [BankSide],
     gate: &'a RuledGate,
     found: Audit,
@@ -382,7 +383,7 @@ pub(crate) fn make_run<R: Abort + Clock + Threads + Sync>(
     run: &Run,
 ) -> Result<Outcome, MakeFault> {
     let scripts = scripts_of(alloc, run.scripts)?;
-    let mut all: SmallStation = station(alloc, SHAPE, run.ports(), run.journal)?;
+    let mut all = station::<1, 4, 2, 2>(alloc, SHAPE, run.ports(), run.journal)?;
     assert_eq!(rt; scripts.len(), all.ports.len());
     Ok(run_row(rt, alloc, &mut all, &scripts, run))
 }
@@ -390,7 +391,7 @@ pub(crate) fn make_run<R: Abort + Clock + Threads + Sync>(
 fn run_row<R: Clock + Threads + Sync>(
     rt: &R,
     alloc: Global,
-    all: &mut SmallStation,
+    all: &mut Station,
     scripts: &[Vec<Ask>],
     run: &Run,
 ) -> Outcome

@@ -5,10 +5,10 @@ ghost use Rattle.station_parts.specs.Station.{AreOneStation};
 
 use super::ends::are_lists;
 use super::gates::{Rule, RuledGate};
-use super::{LOAD_5, SHAPE, SmallStation, TURNS, VALUE, scripts_of};
+use super::{LOAD_5, SHAPE, TURNS, VALUE, scripts_of};
 use flat_model::{Lanes, Word};
 use ring_station::{
-    Ask, Crew, Entry, Keeper, RunFault, Segment, SegmentFault, Told, run_and_renew,
+    Ask, Crew, Entry, Keeper, RunFault, Segment, SegmentFault, Station, Told, run_and_renew,
     run_in_segments, station,
 };
 use station_checks::is_flat;
@@ -154,7 +154,7 @@ static CUTS: [Cut; 5] = [
 fn run_turn<R: Abort + Clock + Threads + Sync>(
     rt: &R,
     alloc: Global,
-    all: &mut SmallStation,
+    all: &mut Station,
     turn: &Turn,
 ) -> Result<Segment, Fail>
     requires { AreOneStation all.old.cache all.old.ports.items all.old.banks.items }
@@ -186,7 +186,7 @@ fn ended_in(journal: &[Entry]) -> usize {
 fn run_turns<R: Abort + Clock + Threads + Sync>(
     rt: &R,
     alloc: Global,
-    all: &mut SmallStation,
+    all: &mut Station,
     whole: &mut Vec<Entry>,
 ) -> Result<(), Fail>
     requires { AreOneStation all.old.cache all.old.ports.items all.old.banks.items }
@@ -203,7 +203,7 @@ fn run_turns<R: Abort + Clock + Threads + Sync>(
 fn renewed_behind_each_run(rt: HostRuntime) -> Result<(), Fail> {
     let alloc = rt.alloc();
     let mut whole: Vec<Entry> = Vec::new(alloc);
-    let mut all: SmallStation = station(alloc, SHAPE, 2, 1_000)?;
+    let mut all = station::<1, 4, 2, 2>(alloc, SHAPE, 2, 1_000)?;
     run_turns(&rt, alloc, &mut all, &mut whole)?;
     assert_eq!(rt; all.cache.entries(), 0);
     assert!(rt; is_flat(alloc, &whole, SHAPE.words)?);
@@ -217,7 +217,7 @@ fn run_cut<R: Abort + Clock + Threads + Sync, K: Keeper>(
     keeper: &mut K,
 ) -> Result<Option<SegmentFault>, Fail> {
     let scripts = scripts_of(alloc, &cut.scripts)?;
-    let mut all: SmallStation = station(alloc, SHAPE, 2, 1_000)?;
+    let mut all = station::<1, 4, 2, 2>(alloc, SHAPE, 2, 1_000)?;
     assert_eq!(rt; scripts.len(), all.ports.len());
     let gate = RuledGate::new(Rule::Open);
     let crew = Crew::one_each();

@@ -5,15 +5,13 @@ use ring_station::{Ask, BankSide, CacheSide, Port, Source, Station, Stepped, Tol
 use station_checks::{BLOCK_WORDS, DEPTH, ENTRIES, REGS, WAYS, shape};
 use std::alloc::Global;
 
-type Cache = CacheSide<WAYS, BLOCK_WORDS, REGS, DEPTH>;
-
 // More steps than an ask or the station's rest needs.
 const TURNS: u32 = 1_000_000;
 
 /// Asks each request, and again after each other part's step if its cause passes. Says whether all
 /// came to rest.
 pub(crate) fn ask_by_hand(alloc: Global, requests: &[Ask]) -> Result<bool, StationFault> {
-    let mut station: Station<WAYS, BLOCK_WORDS, REGS, DEPTH> = station(alloc, shape(), 1, ENTRIES)?;
+    let mut station = station::<WAYS, BLOCK_WORDS, REGS, DEPTH>(alloc, shape(), 1, ENTRIES)?;
     let Station {
         cache,
         ports,
@@ -26,7 +24,7 @@ pub(crate) fn ask_by_hand(alloc: Global, requests: &[Ask]) -> Result<bool, Stati
 }
 
 fn ask_all(
-    cache: &mut Cache,
+    cache: &mut CacheSide,
     port: &mut Port,
     banks: &mut [BankSide],
     requests: &[Ask],
@@ -38,7 +36,7 @@ fn ask_all(
 }
 
 // Steps to the end; whether the station is at rest then.
-fn come_to_rest(cache: &mut Cache, port: &mut Port, banks: &mut [BankSide]) -> bool {
+fn come_to_rest(cache: &mut CacheSide, port: &mut Port, banks: &mut [BankSide]) -> bool {
     for _turn in 0..TURNS {
         if !move_on(cache, port, banks) {
             return cache.is_at_rest();
@@ -48,7 +46,7 @@ fn come_to_rest(cache: &mut Cache, port: &mut Port, banks: &mut [BankSide]) -> b
 }
 
 fn ask_one(
-    cache: &mut Cache,
+    cache: &mut CacheSide,
     port: &mut Port,
     banks: &mut [BankSide],
     ask: Ask,
@@ -71,7 +69,7 @@ fn ask_one(
 
 // Makes the first possible step, as the core's driver: tells and takes a value, processes a word,
 // brings one, serves a command, drains a word.
-fn move_on(cache: &mut Cache, port: &mut Port, banks: &mut [BankSide]) -> bool {
+fn move_on(cache: &mut CacheSide, port: &mut Port, banks: &mut [BankSide]) -> bool {
     if cache.step(Source::Reply(0)) == Stepped::Did {
         let _value = port.take();
         return true;
@@ -86,7 +84,7 @@ fn move_on(cache: &mut Cache, port: &mut Port, banks: &mut [BankSide]) -> bool {
 }
 
 // The first bank's word that there is.
-fn bring_word(cache: &mut Cache) -> bool {
+fn bring_word(cache: &mut CacheSide) -> bool {
     for bank in 0..shape().banks {
         if cache.step(Source::Word(bank)) == Stepped::Did {
             return true;

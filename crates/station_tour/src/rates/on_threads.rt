@@ -16,8 +16,6 @@ const TURNS: u64 = 100_000_000;
 // A port lets them go by before it offers again: few come too early.
 const PATIENCE: u32 = 100;
 
-type RateStation = Station<WAYS, BLOCK_WORDS, REGS, DEPTH>;
-
 /// Runs the scripts with a journal of so many entries. Says whether the audit is clean.
 pub(crate) fn ask_on_threads<R: AllocGlobal + Clock + Threads + Sync>(
     rt: &R,
@@ -30,13 +28,18 @@ pub(crate) fn ask_on_threads<R: AllocGlobal + Clock + Threads + Sync>(
 {
     let alloc = rt.alloc();
     let gate = PatientGate::new(alloc, PATIENCE)?;
-    let mut station: RateStation = station(alloc, shape(), plan.ports, entries)?;
+    let mut station = station::<WAYS, BLOCK_WORDS, REGS, DEPTH>(
+        alloc,
+        shape(),
+        plan.ports,
+        entries,
+    )?;
     runs_clean(rt, &mut station, scripts, crew, &gate)
 }
 
 fn runs_clean<R: AllocGlobal + Clock + Threads + Sync>(
     rt: &R,
-    station: &mut RateStation,
+    station: &mut Station,
     scripts: &[Vec<Ask>],
     crew: Crew,
     gate: &PatientGate,

@@ -4,7 +4,7 @@ use Rattle.ring_station.specs.Turns.{IsTurn}
 use Rattle.ring_station.proofs.cache_thread.turn_round.Goals as goal
 
 pub returns-clause-turn : goal.returns-clause-turn
-returns-clause-turn g c = record {
+returns-clause-turn c = record {
   at = c.seek.new.self;
   looked = c.seek.new.cache;
   looks = c.seek.ensures.looks;

@@ -58,7 +58,7 @@ returns g c =
       banks = banks;
     }
 
-unmoved : {W B R D : ℕ} (c : CacheSide W B R D) (ps : List Port) (bs : List BankSide) → AreUnmoved c c ps ps bs bs
+unmoved : (c : CacheSide) (ps : List Port) (bs : List BankSide) → AreUnmoved c c ps ps bs bs
 unmoved c ps bs = record { cache = refl; ports = refl; banks = refl }
 
 -- want of memory leaves all as it was

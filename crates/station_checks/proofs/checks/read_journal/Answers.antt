@@ -5,7 +5,7 @@ use Rattle.station_checks.proofs.checks.read_journal.Goals as goal
 use Rattle.station_checks.proofs.checks.read_journal.Goals.{in-Some+in_ok-push, in_default}
 
 pub loop-place-preserved : goal.loop-place-preserved
-loop-place-preserved g c =
+loop-place-preserved c =
     let xs = held_of c.args.cache.now in
     elim c.match-entry.branch [
       | in-Some+in_ok-push w ↦

@@ -3,4 +3,4 @@ use Rattle.cache_law.proofs.Silent.{evict_silent}
 use Rattle.station_parts.proofs.asking.answer_ask.Goals as goal
 
 pub returns-in-Evict : goal.returns-in-Evict
-returns-in-Evict g c = grind (arith, evict_silent, append-nil)
+returns-in-Evict c = grind (arith, evict_silent, append-nil)

@@ -7,29 +7,27 @@ use Rattle.station_parts.proofs.Auditing.{ask_number, bank_number, audited_here,
 use Rattle.station_parts.proofs.inspect.audit.Goals as goal
 
 pub found-requires : goal.found-requires
-found-requires g c =
+found-requires c =
     let n = c.look_everywhere.new in
-    let e = c.look_everywhere.ensures in (
-      search rules,
-      (
-        omega (arith, ask_number n.cache n.ports n.banks e.seen e.same.one),
-        omega (arith, bank_number n.cache n.ports n.banks e.seen e.same.one),
-      ),
-    )
+    let e = c.look_everywhere.ensures in
+    record {
+      ports = omega (arith, ask_number n.cache n.ports n.banks e.seen e.same.one);
+      banks = omega (arith, bank_number n.cache n.ports n.banks e.seen e.same.one);
+    }
 
 pub returns-clause-audited : goal.returns-clause-audited
-returns-clause-audited g c =
+returns-clause-audited c =
     let n = c.look_everywhere.new in
     let e = c.look_everywhere.ensures in
     subst (λ (found : Audit). IsAudited n.cache n.ports n.banks found) (sym c.found.ensures) (audited_here _ _ _ e.seen e.same.one)
 
 pub returns-clause-clean : goal.returns-clause-clean
-returns-clause-clean g c clean =
+returns-clause-clean c clean =
     let e = c.look_everywhere.ensures in
     clean_here _ _ _ e.seen e.same.one (sym c.found.ensures ∙ clean)
 
 pub returns-clause-answered : goal.returns-clause-answered
-returns-clause-answered g c scripts lists talked =
+returns-clause-answered c scripts lists talked =
     let e = c.look_everywhere.ensures in
     subst (λ (found : Audit). AreAnswered found (journal_of c.look_everywhere.new.cache) lists) (sym c.found.ensures)
     (answered_here _ _ _ e.seen e.same.one scripts lists

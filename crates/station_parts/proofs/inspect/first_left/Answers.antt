@@ -1,7 +1,7 @@
 use Rattle.station_parts.proofs.inspect.first_left.Goals as goal
 
 pub returns : goal.returns
-returns g c =
+returns c =
     cc (
       c.first_ring.ensures,
       c.first_held-asks.ensures.place,

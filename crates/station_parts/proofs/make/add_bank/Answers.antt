@@ -6,7 +6,7 @@ use Rattle.station_parts.proofs.make.add_bank.Goals as goal
 
 pub returns-clause-new : goal.returns-clause-new
 returns-clause-new c =
-    let s = c.args.shape.now in
+    let s = c.args.sizes.now in
     let to = c.in_ok-to_bank.ensures in
     let from = c.in_ok-answers.ensures in
     let count = (s.words + (s.banks - 1 - c.args.bank)) / s.banks in

@@ -8,7 +8,7 @@ use Rattle.station_parts.proofs.Renewing.{handed_over}
 use Rattle.station_parts.proofs.renewal.hand_out.Goals as goal
 
 pub invariant_of-cache : goal.invariant_of-cache
-invariant_of-cache g c =
+invariant_of-cache c =
     let s = c.args.cache.now in
     let all = ap whole_of c.and.ensures ∙ handed_over s.earlier.values s.journal in
     let empty : c.replace.new.dest.items ≡ [] = cc in
@@ -30,6 +30,6 @@ invariant_of-cache g c =
     }
 
 pub returns-clause-earlier : goal.returns-clause-earlier
-returns-clause-earlier g c =
+returns-clause-earlier c =
     let s = c.args.cache.now in
     ap whole_of c.and.ensures ∙ handed_over s.earlier.values s.journal

@@ -6,14 +6,14 @@ use Rattle.ring_station.proofs.Passing.{looks_more, unknown_before, none_known, 
 use Rattle.ring_station.proofs.round.Round.seek.Goals as goal
 
 pub returns-then-has_item-clause-looks : goal.returns-then-has_item-clause-looks
-returns-then-has_item-clause-looks g c = looks_more _ _ _ c.loop-place.invariant.looks c.look.ensures.looks
+returns-then-has_item-clause-looks c = looks_more _ _ _ c.loop-place.invariant.looks c.look.ensures.looks
 
 pub returns-then-has_item-clause-stays : goal.returns-then-has_item-clause-stays
-returns-then-has_item-clause-stays g c within =
+returns-then-has_item-clause-stays c within =
     rw c.loop-place.invariant.passed_is (passed_within c.loop-place._place _ within)
 
 pub returns-clause-seeks : goal.returns-clause-seeks
-returns-clause-seeks g c may =
+returns-clause-seeks c may =
     let before = c.loop-place.invariant in
     let all : c.loop-place._place ≡ most_places c.args.self.now = search rules in
     let passed_is = rw all at before.passed_is in
@@ -27,11 +27,11 @@ returns-clause-seeks g c may =
     }
 
 pub returns-clause-stays : goal.returns-clause-stays
-returns-clause-stays g c within =
+returns-clause-stays c within =
     rw c.loop-place.invariant.passed_is (passed_within c.loop-place._place _ within)
 
 pub loop-place-preserved : goal.loop-place-preserved
-loop-place-preserved g c =
+loop-place-preserved c =
     let before = c.loop-place.invariant in
     let first = c.args.self.now in
     let looks = looks_more _ _ _ before.looks c.look.ensures.looks in

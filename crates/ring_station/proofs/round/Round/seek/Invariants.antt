@@ -6,7 +6,7 @@ use Rattle.ring_station.specs.Round.{passed, source_of}
 use Rattle.ring_station.proofs.round.Round.seek.Given as goal
 
 abbrev pub invariant-loop-place : goal.invariant-loop-place
-invariant-loop-place g l = record {
+invariant-loop-place l = record {
   same : cache_id l.cache ≡ cache_id l.fn.cache;
   looks : OnlyLooks (state_of l.fn.cache) (state_of l.cache);
   passed_is : l.self ≡ passed l._place l.fn.self;

@@ -17,21 +17,21 @@ use Rattle.station_parts.proofs.AskSteps.{asked_recorded, asked_verdict, side_en
 use Rattle.station_parts.proofs.parts.CacheSide.ask.Goals as goal
 
 pub invariant_of-self-clause-ports : goal.invariant_of-self-clause-ports
-invariant_of-self-clause-ports g c =
+invariant_of-self-clause-ports c =
     ports_looked _ _ _ _ _ refl c.look_at.ensures.looks.rings c.args.self.now.ports (λ p. refl) c.look_at.ensures.looks.pushed
 
 pub invariant_of-self-in_default-clause-ports : goal.invariant_of-self-in_default-clause-ports
-invariant_of-self-in_default-clause-ports g c =
+invariant_of-self-in_default-clause-ports c =
     let pops = c.in_default.ensures.pops in
     ports_looked _ _ _ _ _ pops.rings c.look_at.ensures.looks.rings c.args.self.now.ports (popped_none _ _ _ pops)
     c.look_at.ensures.looks.pushed
 
 pub invariant_of-self-in-Done-clause-tells : goal.invariant_of-self-in-Done-clause-tells
-invariant_of-self-in-Done-clause-tells g c =
+invariant_of-self-in-Done-clause-tells c =
     ∥∥₁_map c.args.self.now.tells (side_ended _ _ _ _ _ _ c.args.port (behind _ _ _ _ c.push_reserved.ensures.items))
 
 pub invariant_of-self-in-Done-clause-ports : goal.invariant_of-self-in-Done-clause-ports
-invariant_of-self-in-Done-clause-ports g c =
+invariant_of-self-in-Done-clause-ports c =
     let pops = c.in-Some.ensures.pops in
     let there = there_popped _ _ _ _ pops in
     let looks = c.look_at.ensures.looks in
@@ -39,11 +39,11 @@ invariant_of-self-in-Done-clause-ports g c =
     (λ p. grind (arith, pops.popped p)) (λ p. grind (arith, append-nil, looks.pushed p)) (behind _ _ _ _ c.push_reserved.ensures.items)
 
 pub verdict_of-requires : goal.verdict_of-requires
-verdict_of-requires g c =
+verdict_of-requires c =
     subst IsVerdict (sym c.answer_ask-answer.ensures.made.answer) (asked_verdict _ _ _ _ c.in-Some.ask c.in_default-ask.not-Done)
 
 pub invariant_of-self-2-clause-tells : goal.invariant_of-self-2-clause-tells
-invariant_of-self-2-clause-tells g c =
+invariant_of-self-2-clause-tells c =
     let made = c.answer_ask-answer.ensures in
     ∥∥₁_map c.args.self.now.tells (λ h. side_step _ _ _ _ _ _ _ _ _ _
     (λ k. asked_step c.args.self.now.unit.sizes (free_at c.look_all.new.self.lines.items) c.args.port k c.in-Some.ask) _
@@ -52,11 +52,11 @@ invariant_of-self-2-clause-tells g c =
     (behind _ _ _ _ c.push_reserved-2.ensures.items))
 
 pub invariant_of-self-2-clause-counted : goal.invariant_of-self-2-clause-counted
-invariant_of-self-2-clause-counted g c sound b =
+invariant_of-self-2-clause-counted c sound b =
     c.answer_ask-answer.ensures.kept.taken b ∙ c.look_all.ensures.kept.taken b ∙ c.args.self.now.counted sound b
 
 pub invariant_of-self-2-clause-ports : goal.invariant_of-self-2-clause-ports
-invariant_of-self-2-clause-ports g c =
+invariant_of-self-2-clause-ports c =
     let pops = c.in-Some.ensures.pops in
     let answer = c.answer_ask-answer.result in
     let asked = only_asked c.args.port _ _ answer c.in_default-ask.not-Done c.event_for.ensures.event in
@@ -69,17 +69,17 @@ invariant_of-self-2-clause-ports g c =
 -- ---- what the step makes
 
 pub returns-then-look_at-eq0-clause-makes : goal.returns-then-look_at-eq0-clause-makes
-returns-then-look_at-eq0-clause-makes g c =
+returns-then-look_at-eq0-clause-makes c =
     idles _ _ _ (grind (arith, append-nil)) (grind (arith, c.look_at.ensures.room))
 
 pub returns-in_default-clause-makes : goal.returns-in_default-clause-makes
-returns-in_default-clause-makes g c =
+returns-in_default-clause-makes c =
     idles _ _ _
     (asks_looked c.args.self.now _ _ _ c.in_default.ensures.pops c.look_at.ensures.looks)
     (grind (arith, c.in_default.ensures.none, and-false))
 
 pub returns-in-Done-clause-makes : goal.returns-in-Done-clause-makes
-returns-in-Done-clause-makes g c =
+returns-in-Done-clause-makes c =
     let s = state_of c.args.self.now in
     let port = c.args.port in
     let pops = c.in-Some.ensures.pops in
@@ -90,16 +90,16 @@ returns-in-Done-clause-makes g c =
     (grind (arith, first, c.look_at.ensures.room)) (grind (arith, first)) (grind arith) (grind (arith, append-nil)) tt
 
 pub answer_ask-answer-requires : goal.answer_ask-answer-requires
-answer_ask-answer-requires g c =
+answer_ask-answer-requires c =
     let there = there_popped _ _ _ _ c.in-Some.ensures.pops in
-    (search rules, (omega arith, c.in_default-ask.not-Done))
+    record { few_ports = omega arith; not_done = c.in_default-ask.not-Done }
 
 pub event_for-requires-clause-few_ports : goal.event_for-requires-clause-few_ports
-event_for-requires-clause-few_ports g c =
+event_for-requires-clause-few_ports c =
     omega (arith, c.args.self.now.few_ports, there_popped _ _ _ _ c.in-Some.ensures.pops)
 
 pub returns-clause-makes : goal.returns-clause-makes
-returns-clause-makes g c =
+returns-clause-makes c =
     let s = state_of c.args.self.now in
     let port = c.args.port in
     let ask = c.in-Some.ask in

@@ -4,8 +4,8 @@ use Rattle.station_parts.proofs.Porting.{ports_looked}
 use Rattle.station_parts.proofs.parts.CacheSide.look_for_asks.Goals as goal
 
 pub invariant_of-self-clause-ports : goal.invariant_of-self-clause-ports
-invariant_of-self-clause-ports g c =
+invariant_of-self-clause-ports c =
     ports_looked _ _ _ _ _ c.look_each.ensures.rings refl c.args.self.now.ports (popped_none _ _ _ c.look_each.ensures) (λ p. refl)
 
 pub returns-clause-looks : goal.returns-clause-looks
-returns-clause-looks g c = asks_looked c.args.self.now _ _ _ c.look_each.ensures (grind arith)
+returns-clause-looks c = asks_looked c.args.self.now _ _ _ c.look_each.ensures (grind arith)

@@ -14,11 +14,11 @@ use Rattle.station_parts.proofs.ReplySteps.{shown_taken, only_value}
 use Rattle.station_parts.proofs.parts.CacheSide.reply.Goals as goal
 
 pub invariant_of-self-clause-ports : goal.invariant_of-self-clause-ports
-invariant_of-self-clause-ports g c =
+invariant_of-self-clause-ports c =
     ports_looked _ _ _ _ _ refl c.look_at.ensures.looks.rings c.args.self.now.ports (λ p. refl) c.look_at.ensures.looks.pushed
 
 pub invariant_of-self-2-clause-tells : goal.invariant_of-self-2-clause-tells
-invariant_of-self-2-clause-tells g c =
+invariant_of-self-2-clause-tells c =
     let place = c.args.place in
     let made = c.take-answer.ensures in
     ∥∥₁_map c.args.self.now.tells (λ h. silent_step _ _ _ _ _ _ _ _ _ (λ k. take_step k place) _
@@ -26,7 +26,7 @@ invariant_of-self-2-clause-tells g c =
     (behind _ _ _ _ c.push_reserved.ensures.items))
 
 pub invariant_of-self-2-clause-ports : goal.invariant_of-self-2-clause-ports
-invariant_of-self-2-clause-ports g c =
+invariant_of-self-2-clause-ports c =
     let s = c.args.self.now in
     let v = c.in-Some-Value in
     let shown = shown_taken s.unit.cache c.args.place v.tag v.word (sym c.reply.ensures ∙ v.is ∙ ap Some v.field-0-is) in
@@ -40,16 +40,16 @@ invariant_of-self-2-clause-ports g c =
 -- ---- what the step makes
 
 pub returns-in_default-2-clause-makes : goal.returns-in_default-2-clause-makes
-returns-in_default-2-clause-makes g c =
+returns-in_default-2-clause-makes c =
     idles _ _ _ (grind (arith, append-nil)) (grind (arith, c.reply.ensures))
 
 pub returns-then-look_at-eq0-clause-makes : goal.returns-then-look_at-eq0-clause-makes
-returns-then-look_at-eq0-clause-makes g c =
+returns-then-look_at-eq0-clause-makes c =
     let value = sym c.reply.ensures ∙ c.in-Some-Value.is ∙ ap Some c.in-Some-Value.field-0-is in
     idles _ _ _ (grind (arith, append-nil)) (grind (arith, value))
 
 pub returns-clause-makes : goal.returns-clause-makes
-returns-clause-makes g c =
+returns-clause-makes c =
     let s = state_of c.args.self.now in
     let place = c.args.place in
     let v = c.in-Some-Value in
