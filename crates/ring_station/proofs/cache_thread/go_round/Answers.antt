@@ -1,4 +1,4 @@
-use Rattle.std.proofs.Common.{rules, arith, refl, sym, ◌∙◌, lit<}
+use Rattle.std.proofs.Common.{rules, arith, refl, sym, ◌∙◌}
 use Rattle.ring_station.proofs.GoingRound.{counted_within, turned, gone_round}
 use Rattle.ring_station.proofs.Turning.{round_notes, ended_more, full_turn}
 use Rattle.ring_station.proofs.cache_thread.go_round.Goals as goal
@@ -75,18 +75,6 @@ returns-then-eq-clause-round g c =
     gone_round _ _ c.stopped.ensures refl
     (turned _ _ _ _ _ _ _ c.loop-turn.invariant.round c.may.ensures c.are_banks_due.ensures c.serve_beside-served.ensures.counted
     c.turn_round-stepped.ensures.turn)
-
-pub entries-entries-requires : goal.entries-entries-requires
-entries-entries-requires g c = lit< tt
-
-pub turn_round-stepped-requires : goal.turn_round-stepped-requires
-turn_round-stepped-requires g c = lit< tt
-
-pub has_ended_port-requires : goal.has_ended_port-requires
-has_ended_port-requires g c = lit< tt
-
-pub is_at_rest-requires : goal.is_at_rest-requires
-is_at_rest-requires g c = lit< tt
 
 pub returns-clause-round : goal.returns-clause-round
 returns-clause-round g c = gone_round _ _ c.stopped-2.ensures (search rules) c.loop-turn.invariant.round

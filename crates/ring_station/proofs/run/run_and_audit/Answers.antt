@@ -1,15 +1,10 @@
-use Rattle.std.proofs.Common.{lit<}
 use Rattle.station_parts.specs.Ids.{port_id, bank_id}
 use Rattle.station_parts.proofs.SameParts.{same_still}
 use Rattle.ring_station.proofs.Ending.{ports_shown, banks_shown, cache_shown, put_back}
 use Rattle.ring_station.proofs.run.run_and_audit.Goals as goal
 
-pub run_parts-requires-after_bounds : goal.run_parts-requires-after_bounds
-run_parts-requires-after_bounds g c κs within =
-    (lit< tt, (c.requires.one, c.requires.scripts))
-
 pub audit-found-requires : goal.audit-found-requires
-audit-found-requires g c = (lit< tt, rw (c.deref_mut.ensures.value, c.deref_mut-2.ensures.value) c.run_parts.ensures.same.one)
+audit-found-requires g c = rw (c.deref_mut.ensures.value, c.deref_mut-2.ensures.value) c.run_parts.ensures.same.one
 
 pub returns : goal.returns
 returns g c =

@@ -1,4 +1,4 @@
-use Rattle.std.proofs.Common.{arith, rules, ◌≡◌, ℕ, List, map, length, refl, ap, ◌∙◌, lit<}
+use Rattle.std.proofs.Common.{arith, rules, ◌≡◌, ℕ, List, map, length, refl, ap, ◌∙◌}
 use Rattle.std.specs.Global.{Vec}
 use Rattle.std.proofs.lemmas.List.{length-map}
 use Rattle.station_parts.specs.declared.port.Port.{Port}
@@ -11,30 +11,31 @@ use Rattle.ring_station.specs.declared.crew.BankRun.{BankRun}
 use Rattle.ring_station.proofs.CrewRunning.{map_same, ports_back, banks_back, port_ids, bank_ids, enlisted_count, lists_heard}
 use Rattle.ring_station.proofs.run.run_parts.Goals as goal
 
-pub run_crew-end-requires-after_bounds : goal.run_crew-end-requires-after_bounds
-run_crew-end-requires-after_bounds g c κs within =
+pub run_crew-end-requires-clause-scripts : goal.run_crew-end-requires-clause-scripts
+run_crew-end-requires-clause-scripts g c =
     let ports = c.args.ports.now in
-    let banks = c.args.banks.now in
     let port_count =
     enlisted_count (λ (r : PortRun). r.port) c.enlist_ports.new.runs ports
     (c.enlist_ports.ensures.ports ∙ ap (λ (v : Vec Port). v.items) c.replace.ensures.value) in
+    omega (arith, c.requires.scripts, port_count)
+
+pub run_crew-end-requires-clause-few_ports : goal.run_crew-end-requires-clause-few_ports
+run_crew-end-requires-clause-few_ports g c =
+    let ports = c.args.ports.now in
+    let port_count =
+    enlisted_count (λ (r : PortRun). r.port) c.enlist_ports.new.runs ports
+    (c.enlist_ports.ensures.ports ∙ ap (λ (v : Vec Port). v.items) c.replace.ensures.value) in
+    omega (arith, port_count, ports.ok.0, simp length-map at (ap length c.requires.one.asks), c.args.cache.now.few_ports)
+
+pub run_crew-end-requires-clause-few_banks : goal.run_crew-end-requires-clause-few_banks
+run_crew-end-requires-clause-few_banks g c =
+    let cache = c.args.cache.now in
+    let banks = c.args.banks.now in
     let bank_count =
     enlisted_count (λ (r : BankRun). r.bank) c.enlist_banks.new.runs banks
     (c.enlist_banks.ensures.banks ∙ ap (λ (v : Vec BankSide). v.items) c.replace-2.ensures.value) in
-    let cache = c.args.cache.now in
-    let one = c.requires.one in (
-      lit< tt,
-      (
-        omega (arith, c.requires.scripts, port_count),
-        (
-          omega (arith, port_count, ports.ok.0, simp length-map at (ap length one.asks), cache.few_ports),
-          (
-            omega (arith, bank_count, banks.ok.0, simp length-map at (ap length one.commands), cache.lines, cache.in_range.few_banks),
-            (c.enlist_ports.ensures.begun, c.enlist_banks.ensures.begun),
-          ),
-        ),
-      ),
-    )
+    omega
+    (arith, bank_count, banks.ok.0, simp length-map at (ap length c.requires.one.commands), cache.lines, cache.in_range.few_banks)
 
 -- what came back, and how
 pub returns : goal.returns

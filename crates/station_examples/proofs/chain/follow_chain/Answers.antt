@@ -1,4 +1,4 @@
-use Rattle.std.proofs.Common.{ap₂, ◌∙◌, lit<}
+use Rattle.std.proofs.Common.{ap₂, ◌∙◌}
 use Rattle.station_parts.specs.Audited.{audit_of}
 use Rattle.station_parts.specs.Ids.{bank_id, port_id}
 use Rattle.station_parts.specs.Words.{offered, taken}
@@ -17,6 +17,3 @@ returns-clause-exact g c =
     ∙ ap₂ (λ ports banks. audit_of c.audit.new.cache ports banks)
     (still_one port_id _ _ _ _ c.audit.ensures.same.ports c.from_mut.ensures.value)
     (still_one bank_id _ _ _ _ c.audit.ensures.same.banks c.from_mut-2.ensures.value)
-
-pub run_threads-requires-after_bounds : goal.run_threads-requires-after_bounds
-run_threads-requires-after_bounds g c κs within = lit< tt
