@@ -34,8 +34,8 @@ use Rattle.std.specs.Option.{option_or}
 use Rattle.flat_model.specs.declared.ShapeField.{ShapeField}
 use Rattle.flat_model.specs.declared.ShapeField.TheVariants.{Ports, Journal}
 use Rattle.flat_model.specs.Ranges.{is_between}
-use Rattle.station_parts.specs.New.{bad_field, bad_size, bad_count, IsNewPort, IsNewBank, IsNewPopper, IsNewPusher, IsNewLine, IsNewCache, IsNewStation}
-use Rattle.station_parts.specs.New.{AreNewPorts, AreNewBanks}
+use Rattle.station_parts.specs.New.{bad_field, bad_size, bad_count, IsNewPort, IsNewBank, IsNewPopper, IsNewPusher, IsNewLine, IsNewCache}
+use Rattle.station_parts.specs.New.{IsNewStation, AreNewPorts, AreNewBanks}
 use Rattle.station_parts.proofs.Rows.{Popper, Pusher}
 
 -- the two ends of a ring belong to it

@@ -1,4 +1,4 @@
-use Rattle.std.proofs.Common.{arith, rules, ◌≡◌, ℕ, List, map, length, refl, ap, ◌∙◌}
+use Rattle.std.proofs.Common.{arith, rules, ◌≡◌, List, map, length, refl, ap, ◌∙◌}
 use Rattle.std.specs.Global.{Vec}
 use Rattle.std.proofs.lemmas.List.{length-map}
 use Rattle.station_parts.specs.declared.port.Port.{Port}

@@ -31,7 +31,8 @@ invariant_of-self-then-not-is_called-clause-tells c =
 pub invariant_of-self-in_default-arrive-clause-tells : goal.invariant_of-self-in_default-arrive-clause-tells
 invariant_of-self-in_default-arrive-clause-tells c =
     let s = c.args.self.now in
-    let no_register = word.refused_here s _ _ _ c.in-Some.ensures.pops (omega (arith, c.stack_len.ensures, ap (λ (z : Sizes). z.depth) c.args.self.now.shaped))
+    let no_register = word.refused_here s _ _ _ c.in-Some.ensures.pops
+    (omega (arith, c.stack_len.ensures, ap (λ (z : Sizes). z.depth) s.shaped))
     (λ e. c.in_default-arrive.not-Moved (c.arrive.ensures.answer ∙ e)) in
     ∥∥₁_map (word.tells_stray s _ _ _ c.in-Some.ensures.pops c.requires.sound (sym c.is_called.ensures ∙ c.if-not-is_called.false)
     no_register.cause) (side_stray s.unit _ _ _ _ _ _ no_register c.arrive.ensures.unit)
