@@ -1,32 +1,32 @@
 -- The rounds of a run that is followed, one at a time.
-use Rattle.std.proofs.Common.{◌≡◌, ℕ, zero, suc, ◌+◌, ◌-◌, ◌<◌, ◌≤◌, true, false, Option, Some, None, List, ◌++◌, append-nil, append_assoc}
+use Rattle.std.proofs.Common.{◌≡◌, ℕ, zero, suc, ◌+◌, ◌-◌, ◌<◌, ◌≤◌, true, false, Option, Some, None}
 use Rattle.std.proofs.Common.{refl, ◌∙◌, arith}
 use Rattle.std.specs.Prelude.{◌&&◌, ◌==◌}
 use Rattle.machine_core.specs.AnyMachine.{weight_of}
 use Rattle.machine_core.specs.Machine.{MachineState}
 use Rattle.machine_core.specs.Pump.{weight}
-use Rattle.round_driver.specs.declared.note.Note.{Note}
 use Rattle.round_driver.specs.Rounds.{Course, attempt, begin, serve_due, bank_turns, arrive_from, arrive, moves, after_round, is_empty}
 use Rattle.round_driver.specs.Stepping.{Stepped, RoundsState, one_round}
 use Rattle.kroft_jobs.specs.Words.{Event}
-use Rattle.kroft_jobs.specs.Following.{notes_along, notes_in, report_in, next}
+use Rattle.result_figures.specs.Turns.{Sight}
+use Rattle.kroft_jobs.specs.Following.{seen_along, seen_in, next}
 
-module _ (n i : ℕ) (f : Stepped) (all so_far : List Note) (here : all ≡ so_far ++ notes_along (n - i) f) where
+module _ (n i : ℕ) (f : Stepped) (all so_far : Sight) (here : all ≡ seen_along (n - i) f so_far) where
   turn : i < n → n - i ≡ suc (n - (i + 1))
   turn h = omega arith
 
   pub goes_on : i < n → (is_empty f.left && (weight f.state.machine == 0)) ≡ false
-      → all ≡ (so_far ++ notes_in (report_in f)) ++ notes_along (n - (i + 1)) (next f)
-  unfolding notes_along weight_of
-  goes_on h going = grind (arith, turn, going, append_assoc)
+      → all ≡ seen_along (n - (i + 1)) (next f) (seen_in f so_far)
+  unfolding seen_along weight_of
+  goes_on h going = grind (arith, turn, going)
 
   pub over_here : i < n → (is_empty f.left && (weight f.state.machine == 0)) ≡ true → so_far ≡ all
-  unfolding notes_along weight_of
-  over_here h over = grind (arith, turn, over, append-nil)
+  unfolding seen_along weight_of
+  over_here h over = grind (arith, turn, over)
 
   pub none_left : n ≤ i → so_far ≡ all
-  unfolding notes_along
-  none_left h = grind (arith, append-nil)
+  unfolding seen_along
+  none_left h = grind (arith)
 
 -- ---- moves take no time
 

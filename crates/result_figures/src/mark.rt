@@ -43,6 +43,8 @@ pub enum Shade {
     Join,
     /// Its block was asked for.
     Miss,
+    /// The block that it asked for is on its way.
+    Flight,
 }
 
 /// What is counted beside lost rounds.
@@ -111,6 +113,8 @@ pub enum Omission {
     Denied(Denials),
     /// Requests that aren't drawn.
     Undrawn(Undrawn),
+    /// Recorded answers, of which the first that isn't the machine's is this event's.
+    Recorded(u64),
 }
 
 impl fmt::Display for Omission {
@@ -120,6 +124,10 @@ impl fmt::Display for Omission {
         match *self {
             Omission::Denied(it) => write!(f, "{it}"),
             Omission::Undrawn(it) => write!(f, "{it}"),
+            Omission::Recorded(event) => write!(
+                f,
+                "event {event} has another recorded answer: the machine's are drawn"
+            ),
         }
     }
 }
