@@ -14,7 +14,7 @@ unfoldable pub undrawn_text : (drawn requests : ℕ) → List ℕ
 undrawn_text drawn requests = codes "the first " ++ decimal drawn ++ codes " of " ++ decimal requests ++ codes " requests are drawn"
 
 unfoldable pub recorded_text : (event : ℕ) → List ℕ
-recorded_text event = codes "event " ++ decimal event ++ codes " has another recorded answer: the machine's are drawn"
+recorded_text event = codes "event " ++ (decimal event ++ codes " has another recorded answer: the machine's are drawn")
 
 abbrev pub omission_text : Omission → List ℕ
 omission_text (Denied it) = denials_text it.denied it.requests

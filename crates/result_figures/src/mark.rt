@@ -120,6 +120,7 @@ pub enum Omission {
 impl fmt::Display for Omission {
     ghost output = { λ it. Some (omission_text it) };
 
+    #[tactic(auto, unfolding(crate::specs::Marks::recorded_text))]
     fn fmt<W: fmt::Write>(&self, f: &mut fmt::Formatter<W>) -> fmt::Result {
         match *self {
             Omission::Denied(it) => write!(f, "{it}"),
