@@ -33,7 +33,7 @@ _kroft() {
     grade) k='--shape --machine --image --sheet --strict --solve --format -h --help' ;;
     drive) k='--shape --machine --image --log --latency --busy --summary --all --format --svg --timeline --beside -h --help' ;;
     requests) k='--from --words -h --help' ;;
-    show) k='--shape --machine --image --text --vcd -h --help' ;;
+    show) k='--shape --machine --image --text --vcd --svg -h --help' ;;
     history) k='--law --unit --image --unknown --all-answered --values --shrink --format -h --help' ;;
     *) k='run check sweep explain grade drive requests show history --shape -h --help -V --version' ;;
   esac

@@ -65,6 +65,7 @@ complete -c kroft -n '__fish_seen_subcommand_from show' -l machine -r -F -d 'The
 complete -c kroft -n '__fish_seen_subcommand_from show' -l image -r -F -d 'What memory has in place of zeros: each word its own address, or a file\'s bytes'
 complete -c kroft -n '__fish_seen_subcommand_from show' -l text -d 'Write lines for a terminal in place of the page'
 complete -c kroft -n '__fish_seen_subcommand_from show' -l vcd -d 'Write a waveform in place of the page'
+complete -c kroft -n '__fish_seen_subcommand_from show' -l svg -d 'Draw the first 16 requests by events: asked, accepted, answered'
 complete -c kroft -n '__fish_seen_subcommand_from show' -l help -s h -d 'Print help'
 complete -c kroft -n '__fish_seen_subcommand_from history' -l law -x -a 'flat atomic regular' -d 'The law that the history is judged by [default: regular]'
 complete -c kroft -n '__fish_seen_subcommand_from history' -l unit -x -a '1 2 4 8' -d 'How many bytes take effect at one moment, with --law atomic [default: 8]'

@@ -12,7 +12,6 @@ use Rattle.kroft_jobs.specs.Words.{Sizes, Image, CheckEnd, MAX_LINE, MAX_PAIR, T
 use Rattle.kroft_jobs.specs.Words.{AccessCounts, Event, PAGE_WORDS, Format, VerdictFormat, Details, Table, Timing, Form, ShowFault}
 use Rattle.kroft_jobs.specs.Words.{Explanation, RoundsRow, MachineFault, ShapeFault, ToolShape, Score, Marking, Question}
 use Rattle.register_sweeps.specs.Machine.{MachineState}
-use Rattle.round_driver.specs.declared.note.Note.{Note}
 use Rattle.toml.specs.Parse.{parse_document}
 use Rattle.flat_model.specs.Flat.{Flat}
 use Rattle.flat_model.specs.Images.{memory_from, flat_from, bytes_of}
@@ -41,15 +40,19 @@ use Rattle.result_figures.specs.Losses.{figure as loss_marks}
 use Rattle.result_figures.specs.Marks.{omissions_text}
 use Rattle.result_figures.specs.Sweeps.{Swept, sweep_marks}
 use Rattle.result_figures.specs.Timelines.{Ran, timeline_marks}
+use Rattle.result_figures.specs.Turns.{sight_of}
+use Rattle.result_figures.specs.declared.seen.Seen.{Seen}
 use Rattle.result_figures.specs.declared.drawing.Drawing.{Drawing}
 use Rattle.result_figures.specs.declared.mark.Mark.{Mark}
 use Rattle.result_figures.specs.declared.mark.Omission.{Omission}
-use Rattle.result_figures.specs.declared.mark.Omission.TheVariants.{Undrawn}
+use Rattle.result_figures.specs.declared.mark.Omission.TheVariants.{Undrawn, Recorded}
 use Rattle.result_figures.specs.declared.mark.Scale.{Scale}
 use Rattle.result_formats.specs.Counts.{table_in, table_head, rounds_in, rounds_head, latency_in, latency_head, pumps_in, pumps_head}
 use Rattle.kroft_jobs.specs.Answering.{tags_owed, answered_status}
 use Rattle.kroft_jobs.specs.Driving.{DrivesAll}
 use Rattle.kroft_jobs.specs.Following.{FollowsAll}
+use Rattle.kroft_jobs.specs.Walking.{WalksAll}
+use Rattle.kroft_jobs.specs.declared.walking.WalkedRun.{WalkedRun}
 use Rattle.kroft_jobs.specs.declared.following.FollowedRun.{FollowedRun}
 use Rattle.kroft_jobs.specs.declared.following.TheConstants.{MOST_FOLLOWED}
 use Rattle.kroft_jobs.specs.Forms.{check_in, answered_in}
@@ -113,14 +116,22 @@ latency_lines format s = flat_map (λ row. line (latency_in format s.latency row
 abbrev pub undrawn : ℕ → Option Omission
 undrawn requests = if nat_lt MOST_FOLLOWED requests then Some (Undrawn (record { drawn = MOST_FOLLOWED; requests = requests })) else None
 
-abbrev pub ran_beside : Option Sizes → Option (Vec Note) → List Ran
-ran_beside (Some sizes) (Some notes) = record { sizes = sizes; notes = notes.items } ∷ []
-ran_beside sizes notes = []
+abbrev pub ran_beside : Option Sizes → Option Seen → List Ran
+ran_beside (Some sizes) (Some seen) = record { sizes = sizes; seen = sight_of seen } ∷ []
+ran_beside sizes seen = []
 
 abbrev pub followed_marks : Sizes → Option Sizes → Timing → FollowedRun → List Mark
 followed_marks sizes beside timing run =
     timeline_marks (Some timing) (undrawn run.requests)
-    (record { sizes = sizes; notes = run.notes.items } ∷ ran_beside beside run.beside)
+    (record { sizes = sizes; seen = sight_of run.first } ∷ ran_beside beside run.beside)
+
+-- the first recorded answer that isn't the machine's
+abbrev pub other_answers : Option ℕ → Option Omission
+other_answers (Some event) = Some (Recorded event)
+other_answers None = None
+
+abbrev pub walked_marks : Sizes → WalkedRun → List Mark
+walked_marks sizes run = timeline_marks None (other_answers run.other) (record { sizes = sizes; seen = sight_of run.seen } ∷ [])
 
 -- ---- words
 
@@ -519,6 +530,14 @@ module _ {R W E : Type 0} (gave : R → List ℕ → R → Type 0) (failed : R �
       × (marks ≡ followed_marks sizes beside timing run))
       (λ fault. (f : LogFault) × AsksNothing gave failed from (room_of sizes) input input' f × (fault ≡ of_log f)) errors errors'
 
+  -- The events of a trace or of a recorded run are made, and its requests drawn by events.
+  abbrev pub DrawsEvents : (sizes : Sizes) (image : Image) → Telling R W E
+  DrawsEvents sizes image errors errors' input input' =
+      DrawsMarks took refused unflushed noted unnoted unsettled
+      (λ marks. (run : WalkedRun) × WalksAll gave failed (machine_over image sizes) input input' (Ok run)
+      × (marks ≡ walked_marks sizes run))
+      (λ fault. (f : ShowFault) × WalksAll gave failed (machine_over image sizes) input input' (Err f) × (fault ≡ of_show f)) errors errors'
+
   -- The rounds of a sweep are drawn, a line for each latency.
   abbrev pub DrawsSweep : (timings : List Timing) (scale : Scale) (sizes : Sizes) (machines : List Sizes) → Telling R W E
   DrawsSweep timings scale sizes machines errors errors' input input' =
@@ -557,6 +576,7 @@ module _ {R W E : Type 0} (gave : R → List ℕ → R → Type 0) (failed : R �
   IsDone (task.Requests log words) shrink sizes beside image =
       Silently (WritesRequests gave failed took refused unflushed (access_in log) words)
   IsDone (task.Show form) shrink sizes beside image = Silently (Draws gave failed took refused unflushed form sizes image)
+  IsDone task.Events shrink sizes beside image = DrawsEvents sizes image
   IsDone (task.History how) shrink sizes beside image =
       Silently (judges_or_shrinks gave failed took refused unflushed shrink how (bytes_of image))
 

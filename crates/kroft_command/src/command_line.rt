@@ -226,6 +226,8 @@ pub(crate) enum Task {
         /// A page, screens or a waveform.
         form: Form,
     },
+    /// Draw its requests by events.
+    Events,
     /// Judge a history.
     History(HistoryTask),
 }
@@ -528,6 +530,9 @@ fn conflict(task: Task, before: Option<&str>) -> Option<&'static str>
 fn show_task(rest: &ArgMatches<'_>) -> Task
     ensures { IsInRange result }
 {
+    if rest.get_flag(SVG) {
+        return Task::Events;
+    }
     let form = if rest.get_flag("vcd") {
         Form::Waveform
     } else if rest.get_flag("text") {

@@ -11,15 +11,15 @@ ghost use Rattle.result_figures.specs.Marks.{omissions_text};
 ghost use Rattle.result_figures.specs.Sweeps.{told};
 ghost use Rattle.kroft_command.specs.Tool.{IsTimely};
 ghost use Rattle.kroft_command.specs.Program.{swept_rows, TellsText, PutsFigure, DrawsSweep, DrawsCounts};
-ghost use Rattle.kroft_command.specs.Program.{DrawsTimeline, followed_marks, undrawn};
+ghost use Rattle.kroft_command.specs.Program.{DrawsTimeline, DrawsEvents, followed_marks, walked_marks, undrawn};
 ghost use Rattle.kroft_jobs.specs.Following.{IsGood};
 
 use crate::fault::ToolFault;
 use crate::tasks::answer;
 use flat_model::Image;
 use kroft_jobs::{
-    FollowedRun, LatencyRows, MOST_FOLLOWED, RequestText, follow_requests, put_text,
-    summarize_requests, sweep_latencies,
+    FollowedRun, LatencyRows, MOST_FOLLOWED, RequestText, WalkedRun, follow_requests, put_text,
+    summarize_requests, sweep_latencies, walk_events,
 };
 use register_sweeps::Sizes;
 use result_figures::{
@@ -154,13 +154,13 @@ fn followed_marks(
     let omitted = undrawn(run.requests);
     let first = Told {
         sizes: *sizes,
-        notes: run.notes.as_slice(),
+        seen: &run.first,
     };
     match (beside, &run.beside) {
-        (Some(other), Some(notes)) => {
+        (Some(other), Some(seen)) => {
             let second = Told {
                 sizes: *other,
-                notes: notes.as_slice(),
+                seen,
             };
             timeline_marks(alloc, Some(timing), omitted, &[first, second])
         }
@@ -188,5 +188,38 @@ pub(crate) fn draw_timeline<I: Source, O: Sink, E: Sink>(
 {
     let run = follow_requests(alloc, sizes, beside, image, timing, from, input)?;
     let marks = followed_marks(alloc, sizes, beside, timing, &run)?;
+    put_figure(alloc, marks, output, errors)
+}
+
+fn walked_marks(alloc: Global, sizes: &Sizes, run: &WalkedRun) -> Result<Vec<Mark>, AllocError>
+    ensures { IfOk result (λ marks. marks.items ≡ walked_marks sizes.now run.now) }
+{
+    let first = Told {
+        sizes: *sizes,
+        seen: &run.seen,
+    };
+    let omitted = match run.other {
+        Some(event) => Some(Omission::Recorded(event)),
+        None => None,
+    };
+    timeline_marks(alloc, None, omitted, &[first])
+}
+
+/// Makes the events of a trace or of a recorded run, and draws its first requests by events.
+pub(crate) fn draw_events<I: Source, O: Sink, E: Sink>(
+    alloc: Global,
+    sizes: &Sizes,
+    image: &Image,
+    input: &mut I,
+    output: &mut O,
+    errors: &mut E,
+) -> Result<u8, ToolFault>
+    requires sizes { bad_machine sizes.now ≡ None }
+    ensures few { IfOk result (λ status. status ≤ 1) }
+    ensures ends { DrawsEvents I.gave I.failed O.took O.refused O.unflushed E.took E.refused E.unflushed sizes.now image.now
+        errors.old errors.new input.old input.new output.old output.new result }
+{
+    let run = walk_events(alloc, sizes, image, input)?;
+    let marks = walked_marks(alloc, sizes, &run)?;
     put_figure(alloc, marks, output, errors)
 }

@@ -229,8 +229,9 @@ miss if any of its words missed, else a join if any joined, else a hit. A modifi
 A log with a fault isn't driven in part, as it is if 'requests' reads it in front of a pipe.
 With --timeline --svg the first 16 requests are driven, and drawn by rounds, a row each: a dashed bar
 from the round that first asked a request to the one that accepted it, and of a load another one up
-to its value, coloured by what it found. Other requests have a bar of one round there. With --beside
-FILE the same requests go through a second machine, drawn below in the same rounds.
+to its value, coloured by what it found. Other requests have a bar of one round there. A thin bar goes
+from a miss to its block's fill, or to the round in which the block lost its frame. With --beside FILE
+the same requests go through a second machine, drawn below in the same rounds.
 
 Statuses: 0 done, 2 the command line is wrong, 3 the machine's file is wrong, 4 a line is faulty, the
 image is wrong or a stream failed, 5 there is too little memory.
@@ -287,7 +288,10 @@ event and behind each, with what the event changed, and why, in words. Left and 
 End step through it, and the space bar plays.
 With --text, in its place, lines of at most 80 columns for a terminal: what each step changed, marked
 by *, and the whole machine each 100 events and at the end. With --vcd, a waveform (a value change
-dump) with one unit of time an event.
+dump) with one unit of time an event. With --svg, a figure of the first 16 requests by events, a row
+each, with the machine's answers: a dashed bar while a request is refused and asked again, then one to
+a load's value, and a thin one to the fill of the block that a miss sent for, or to the loss of its
+frame. What isn't over ends with the last event. What is left out is told on standard error, too.
 A page has some 50 to 350 bytes an event, and 630 for a miss. It shows the first 256 words of memory.
 Memory begins with zeros, or with an image ('kroft run --help' describes them).
 

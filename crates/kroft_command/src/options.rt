@@ -306,7 +306,7 @@ pub(crate) static REQUESTS: [CommandOption; 2] = [
 ];
 
 /// The options of `show`.
-pub(crate) static SHOW: [CommandOption; 5] = [
+pub(crate) static SHOW: [CommandOption; 6] = [
     SHAPE,
     MACHINE_FILE,
     IMAGE,
@@ -319,6 +319,12 @@ pub(crate) static SHOW: [CommandOption; 5] = [
         name: "vcd",
         conflicts: &["text"],
         help: "Write a waveform in place of the page",
+        ..FLAG
+    },
+    CommandOption {
+        name: SVG,
+        conflicts: &["text", "vcd"],
+        help: "Draw the first 16 requests by events: asked, accepted, answered",
         ..FLAG
     },
 ];

@@ -21,7 +21,7 @@ ghost use Rattle.kroft_jobs.specs.Words.{MAX_LINES};
 
 use crate::command_line::{CommandLine, HistoryTask, ImageName, MachineName, Task, read_words};
 use crate::fault::{LongImage, ToolFault};
-use crate::figures::draw_timeline;
+use crate::figures::{draw_events, draw_timeline};
 use crate::tasks::{
     answer, check_by, drive, explain, grade_by, grade_or_solve, history, requests, run, show,
     status_of, sweep,
@@ -238,6 +238,7 @@ fn complete<R: AllocGlobal + Files + Threads + Sync, I: Source, O: Sink, E: Sink
         ),
         Task::Requests { from, words } => requests(alloc, from, words, input, output),
         Task::Show { form } => show(alloc, sizes, image, form, input, output),
+        Task::Events => draw_events(alloc, sizes, image, input, output, errors),
         Task::History(how) => judge_or_shrink(rt, how, shrink, image.bytes(), input, output),
     }
 }

@@ -4,3 +4,4 @@ pub mod Sweeping
 pub mod Owed
 pub mod Sheets
 pub mod Followed
+pub mod Walked

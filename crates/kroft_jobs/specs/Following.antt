@@ -1,7 +1,6 @@
 -- What is told of requests in rounds that are followed to their ends.
-use Rattle.std.specs.Prelude.{◌≡◌, ℕ, zero, suc, min, Bool, true, false, if◌then◌else◌, List, [], ◌∷◌, ◌++◌, length, take, drop, Option}
-use Rattle.std.specs.Prelude.{Some, None, slice_get}
-use Rattle.std.specs.Global.{Vec}
+use Rattle.std.specs.Prelude.{◌≡◌, ℕ, zero, suc, min, Bool, false, if◌then◌else◌, List, length, take, drop, Option, Some, None}
+use Rattle.std.specs.Prelude.{slice_get}
 use Rattle.flat_model.specs.declared.image.Image.{Image}
 use Rattle.register_sweeps.specs.Machine.{MachineState}
 use Rattle.register_sweeps.specs.Sweep.{machine_over}
@@ -10,6 +9,8 @@ use Rattle.round_driver.specs.Stepping.{Stepped, start_of_steps, one_round, afte
 use Rattle.round_driver.specs.declared.note.Note.{Note}
 use Rattle.round_driver.specs.declared.stepping.RoundReport.{RoundReport}
 use Rattle.round_driver.specs.declared.stepping.TheConstants.{MOST_ROUNDS}
+use Rattle.result_figures.specs.Turns.{Sight, sight_of, sight_behind, nothing_seen}
+use Rattle.result_figures.specs.declared.seen.Seen.{Seen}
 use Rattle.shape_files.specs.MachineFile.{bad_machine}
 use Rattle.kroft_jobs.specs.Words.{Sizes, Event, Timing, AccessGroup}
 use Rattle.kroft_jobs.specs.Asking.{Asks}
@@ -26,14 +27,6 @@ has_ended (Some n) = is_end n.answer
 -- the request that was asked is used up once it has ended
 abbrev pub left_behind : List Event → Option Note → List Event
 left_behind left asked = if has_ended asked then drop 1 left else left
-
-abbrev pub some : Option Note → List Note
-some None = []
-some (Some n) = n ∷ []
-
--- a round answers a load before it asks
-abbrev pub notes_in : RoundReport → List Note
-notes_in report = some report.answered ++ some report.asked
 
 -- ---- a run
 
@@ -52,13 +45,17 @@ next f =
       left = left_behind f.left (report_in f).asked;
     }
 
--- rounds until the requests are used up and nothing is on its way, so many at most
-unfoldable pub notes_along : ℕ → Stepped → List Note
-notes_along zero f = []
-notes_along (suc n) f = if is_over_at f.state f.left then [] else notes_in (report_in f) ++ notes_along n (next f)
+-- what was seen behind it
+abbrev pub seen_in : Stepped → Sight → Sight
+seen_in f seen = sight_behind (next f).state (next f).rounds.schedule.round (report_in f) seen
 
-abbrev pub followed : Timing → MachineState → List Event → List Note
-followed timing s requests = notes_along MOST_ROUNDS (start_of_steps timing s requests)
+-- rounds until the requests are used up and nothing is on its way, so many at most
+unfoldable pub seen_along : ℕ → Stepped → Sight → Sight
+seen_along zero f seen = seen
+seen_along (suc n) f seen = if is_over_at f.state f.left then seen else seen_along n (next f) (seen_in f seen)
+
+abbrev pub followed : Timing → MachineState → List Event → Sight
+followed timing s requests = seen_along MOST_ROUNDS (start_of_steps timing s requests) nothing_seen
 
 -- ---- another machine beside it, if there is one
 
@@ -66,15 +63,15 @@ abbrev pub IsGood : Option Sizes → Type 0
 IsGood None = Unit {0}
 IsGood (Some sizes) = bad_machine sizes ≡ None
 
-abbrev pub IsFollowedBeside : Timing → Option Sizes → Image → List Event → Option (Vec Note) → Type 0
+abbrev pub IsFollowedBeside : Timing → Option Sizes → Image → List Event → Option Seen → Type 0
 IsFollowedBeside timing None image requests None = Unit {0}
-IsFollowedBeside timing (Some sizes) image requests (Some notes) = notes.items ≡ followed timing (machine_over image sizes) requests
-IsFollowedBeside timing beside image requests notes = ⊥
+IsFollowedBeside timing (Some sizes) image requests (Some seen) = sight_of seen ≡ followed timing (machine_over image sizes) requests
+IsFollowedBeside timing beside image requests seen = ⊥
 
 -- the first requests of an input are followed on both
 abbrev pub FollowsAll : {R : Type 0} (gave : R → List ℕ → R → Type 0) (from : RequestText) (room : ℕ) (timing : Timing) (s : MachineState)
     (beside : Option Sizes) (image : Image) (input input' : R) → FollowedRun → Type 0
 FollowsAll gave from room timing s beside image input input' run =
     (requests : List Event) × (groups : List AccessGroup) × Asks gave from room input input' requests groups
-    × (run.requests ≡ length requests) × (run.notes.items ≡ followed timing s (take (min (length requests) MOST_FOLLOWED) requests))
+    × (run.requests ≡ length requests) × (sight_of run.first ≡ followed timing s (take (min (length requests) MOST_FOLLOWED) requests))
     × IsFollowedBeside timing beside image (take (min (length requests) MOST_FOLLOWED) requests) run.beside

@@ -5,6 +5,7 @@ pub mod Asking
 pub mod Lengths
 pub mod Driving
 pub mod Following
+pub mod Walking
 pub mod Grading
 pub mod Sweeping
 pub mod Answering

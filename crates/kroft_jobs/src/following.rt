@@ -1,9 +1,10 @@
 //! Requests in rounds, each followed to its end.
 
-ghost use Rattle.std.specs.Prelude.{◌≡◌, ◌++◌, ◌&&◌, ◌==◌, None, IfOk, IfErr, OnOk};
+ghost use Rattle.std.specs.Prelude.{◌≡◌, ◌&&◌, ◌==◌, None, IfOk, IfErr};
 ghost use Rattle.shape_files.specs.MachineFile.{bad_machine};
 ghost use Rattle.register_sweeps.specs.Sweep.{machine_over};
 ghost use Rattle.round_driver.specs.Rounds.{is_empty};
+ghost use Rattle.result_figures.specs.Turns.{sight_of};
 ghost use Rattle.kroft_jobs.specs.Asking.{AsksNothing, room_of};
 ghost use Rattle.kroft_jobs.specs.Following as following;
 ghost use Rattle.kroft_jobs.specs.Following.{FollowsAll};
@@ -12,7 +13,8 @@ use crate::asked::{RequestText, read_asked};
 use access_logs::LogFault;
 use flat_model::{Answer, Event, Image};
 use register_sweeps::{Sizes, new_machine};
-use round_driver::{MOST_ROUNDS, Note, RoundReport, Rounds, Timing, keeps_whole};
+use result_figures::Seen;
+use round_driver::{MOST_ROUNDS, Note, Rounds, Timing, keeps_whole};
 use std::alloc::{AllocError, Global};
 use trace_text::Source;
 
@@ -41,18 +43,6 @@ fn left_behind<'a>(left: &'a [Event], asked: Option<Note>) -> &'a [Event]
     }
 }
 
-fn push_report(notes: &mut Vec<Note>, report: RoundReport) -> Result<(), AllocError>
-    ensures { OnOk result (notes.new.items ≡ notes.old.items ++ following.notes_in report) }
-{
-    if let Some(note) = report.answered {
-        notes.push(note)?;
-    }
-    if let Some(note) = report.asked {
-        notes.push(note)?;
-    }
-    Ok(())
-}
-
 // Whether requests are used up, and nothing is on its way.
 fn is_over(weight: u64, left: &[Event]) -> bool
     ensures { result ≡ (is_empty left.now && (weight == 0)) }
@@ -67,25 +57,25 @@ fn follow(
     image: &Image,
     timing: Timing,
     requests: &[Event],
-) -> Result<Vec<Note>, AllocError>
+) -> Result<Seen, AllocError>
     requires sizes { bad_machine sizes.now ≡ None }
     ensures { IfOk result
-        (λ notes. notes.items ≡ following.followed timing (machine_over image.now sizes.now) requests.now) }
+        (λ seen. sight_of seen ≡ following.followed timing (machine_over image.now sizes.now) requests.now) }
 {
     let mut machine = new_machine(alloc, sizes, image)?;
     let mut rounds = Rounds::new(alloc, timing)?;
-    let mut notes = Vec::new(alloc);
+    let mut seen = Seen::new(alloc);
     let mut left = requests;
     for _turn in 0..MOST_ROUNDS {
         if is_over(machine.weight(), left) {
-            return Ok(notes);
+            return Ok(seen);
         }
         keeps_whole(&machine);
         let report = rounds.make(&mut machine, left.first().copied());
-        push_report(&mut notes, report)?;
+        seen.see(&machine, rounds.count(), report)?;
         left = left_behind(left, report.asked);
     }
-    Ok(notes)
+    Ok(seen)
 }
 
 /// What is told of requests that were followed.
@@ -93,10 +83,10 @@ fn follow(
 pub struct FollowedRun {
     /// How many requests there are; the first [`MOST_FOLLOWED`] are followed.
     pub requests: usize,
-    /// Each asking of a request, and each value that a load returned.
-    pub notes: Vec<Note>,
+    /// What was seen of them.
+    pub first: Seen,
     /// The same of the other machine.
-    pub beside: Option<Vec<Note>>,
+    pub beside: Option<Seen>,
 }
 
 fn follow_beside(
@@ -105,7 +95,7 @@ fn follow_beside(
     image: &Image,
     timing: Timing,
     requests: &[Event],
-) -> Result<Option<Vec<Note>>, AllocError>
+) -> Result<Option<Seen>, AllocError>
     requires { following.IsGood beside.now }
     ensures { IfOk result (following.IsFollowedBeside timing beside.now image.now requests.now) }
 {
@@ -137,11 +127,11 @@ pub fn follow_requests<I: Source>(
     let asked = read_asked(alloc, from, sizes, input)?;
     let all = asked.requests.as_slice();
     let requests = &all[..all.len().min(MOST_FOLLOWED)];
-    let notes = follow(alloc, sizes, image, timing, requests)?;
+    let first = follow(alloc, sizes, image, timing, requests)?;
     let beside = follow_beside(alloc, beside, image, timing, requests)?;
     Ok(FollowedRun {
         requests: all.len(),
-        notes,
+        first,
         beside,
     })
 }

@@ -19,6 +19,7 @@ mod jobs;
 mod lengths;
 mod pictures;
 mod rounds;
+mod walking;
 mod writing;
 
 pub use answered::{AnsweredVerdict, check_answered};
@@ -34,4 +35,5 @@ pub use rounds::{
     CountedRun, LatencyRows, detail_requests, summarize_requests, sweep_in_rounds, sweep_latencies,
 };
 pub use trace_sheets::{Marking, Question, read_questions};
+pub use walking::{WalkedRun, walk_events};
 pub use writing::put_text;

@@ -1,3 +1,4 @@
+pub mod Turns
 pub mod Marks
 pub mod Scales
 pub mod Sweeps

@@ -4,7 +4,7 @@ use Rattle.std.specs.List.{flat_map}
 use Rattle.result_figures.specs.declared.mark.Mark.{Mark}
 use Rattle.result_figures.specs.declared.mark.Mark.TheVariants.{Omitted}
 use Rattle.result_figures.specs.declared.mark.Omission.{Omission}
-use Rattle.result_figures.specs.declared.mark.Omission.TheVariants.{Denied, Undrawn}
+use Rattle.result_figures.specs.declared.mark.Omission.TheVariants.{Denied, Undrawn, Recorded}
 
 unfoldable pub denials_text : (denied requests : ℕ) → List ℕ
 denials_text denied requests =
@@ -13,9 +13,13 @@ denials_text denied requests =
 unfoldable pub undrawn_text : (drawn requests : ℕ) → List ℕ
 undrawn_text drawn requests = codes "the first " ++ decimal drawn ++ codes " of " ++ decimal requests ++ codes " requests are drawn"
 
+unfoldable pub recorded_text : (event : ℕ) → List ℕ
+recorded_text event = codes "event " ++ (decimal event ++ codes " has another recorded answer: the machine's are drawn")
+
 abbrev pub omission_text : Omission → List ℕ
 omission_text (Denied it) = denials_text it.denied it.requests
 omission_text (Undrawn it) = undrawn_text it.drawn it.requests
+omission_text (Recorded event) = recorded_text event
 
 abbrev pub omission_line : Mark → List ℕ
 omission_line (Omitted omission) = omission_text omission ++ codes "\n"

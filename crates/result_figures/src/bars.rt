@@ -13,6 +13,11 @@ use std::alloc::{AllocError, Global};
 // From a bar to its number.
 const GAP: u128 = 12;
 
+// A block in flight has a thin bar, so far below the middle of its row.
+const FLIGHT_HEIGHT: u128 = 6;
+
+const FLIGHT_SINK: u128 = 15;
+
 // Where counts are named, and where they end.
 const COUNTS: u128 = 920;
 
@@ -44,7 +49,15 @@ pub(crate) fn put_legend(out: &mut String) -> Result<(), AllocError> {
     put_named(out, LEFT, Shade::Asked, "asked")?;
     put_named(out, LEFT + 180, Shade::Miss, "miss")?;
     put_named(out, LEFT + 340, Shade::Join, "join")?;
-    put_named(out, LEFT + 500, Shade::Hit, "hit")
+    put_named(out, LEFT + 500, Shade::Hit, "hit")?;
+    put_bar(
+        out,
+        class_of(Shade::Flight),
+        (LEFT + 640, 94),
+        28,
+        FLIGHT_HEIGHT,
+    )?;
+    put_text(out, Place::begin(LEFT + 678, 108, 260), "block in flight")
 }
 
 fn put_tick(
@@ -100,6 +113,16 @@ fn put_behind(out: &mut String, layout: &Layout, pen: &Pen, words: &str) -> Resu
     )
 }
 
+// The upper end of a bar in the row, and its height.
+fn level_of(layout: &Layout, pen: &Pen, shade: Shade) -> (u128, u128) {
+    let bars = layout.bars();
+    let middle = layout.row(pen.row());
+    match shade {
+        Shade::Flight => (middle + FLIGHT_SINK, FLIGHT_HEIGHT),
+        _ => (middle.saturating_sub(bars.height / 2), bars.height),
+    }
+}
+
 // A bar; behind that of lost rounds their number.
 fn put_shaded(
     alloc: Global,
@@ -114,10 +137,10 @@ fn put_shaded(
     let length = bars.width.min(WIDTH);
     let left = LEFT + layout.along(u128::from(from), length);
     let right = LEFT + layout.along(u128::from(to), length);
-    let level = layout.row(pen.row()).saturating_sub(bars.height / 2);
+    let (level, height) = level_of(layout, pen, shade);
     if from < to {
         let width = right.saturating_sub(left).max(2);
-        put_bar(out, class_of(shade), (left, level), width, bars.height)?;
+        put_bar(out, class_of(shade), (left, level), width, height)?;
     }
     pen.right = pen.right.max(right);
     match shade {
@@ -151,7 +174,11 @@ fn put_denied(
     cause: Cause,
 ) -> Result<(), AllocError> {
     let name = cause.name();
-    let words = format!(in alloc; "denied: {name}")?;
+    let words = if cause.ends_request() {
+        format!(in alloc; "denied: {name}")?
+    } else {
+        format!(in alloc; "refused: {name}")?
+    };
     put_behind(out, layout, pen, words.as_str())
 }
 

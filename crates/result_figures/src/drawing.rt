@@ -6,7 +6,7 @@ ghost use Rattle.std.specs.String.{string_bytes};
 use crate::bars::{put_bar_axis, put_bar_mark, put_legend};
 use crate::layout::Layout;
 use crate::mark::{Mark, Title};
-use crate::notes::{put_machine, put_omission, put_times};
+use crate::notes::{put_events_note, put_machine, put_omission, put_times};
 use crate::pen::Pen;
 use crate::plot::{put_plot_axis, put_plot_mark};
 use crate::svg::{Place, put_opening, put_text};
@@ -79,9 +79,14 @@ fn put_axes(out: &mut String, layout: &Layout, marks: &[Mark]) -> Result<(), All
     match layout.title {
         Title::Registers => put_plot_axis(out, layout),
         Title::Losses => put_bar_axis(out, layout),
-        Title::Rounds | Title::Events => {
+        Title::Rounds => {
             put_legend(out)?;
             put_bar_axis(out, layout)
+        }
+        Title::Events => {
+            put_legend(out)?;
+            put_bar_axis(out, layout)?;
+            put_events_note(out, layout)
         }
     }
 }

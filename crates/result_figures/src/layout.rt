@@ -109,7 +109,7 @@ impl Layout {
     /// One mark more.
     pub(crate) fn add(&mut self, mark: &Mark) {
         match *mark {
-            Mark::Title(title) => self.title = title,
+            Mark::Title(title) => self.add_title(title),
             Mark::Axis(scale) => self.scale = scale,
             Mark::Tick(value) => {
                 self.least = self.least.min(value);
@@ -122,6 +122,14 @@ impl Layout {
             Mark::Cause(_) | Mark::Request(_) => self.rows = self.rows.saturating_add(1),
             Mark::Machine(_) if self.is_timeline() => self.rows = self.rows.saturating_add(1),
             _ => {}
+        }
+    }
+
+    // A note on events takes the place of times.
+    fn add_title(&mut self, title: Title) {
+        self.title = title;
+        if let Title::Events = title {
+            self.times = self.times.saturating_add(1);
         }
     }
 

@@ -1,20 +1,21 @@
 //! Requests of a run, from its notes.
 
-ghost use Rattle.std.specs.Prelude.{◌≡◌, [], IfOk, OnOk};
+ghost use Rattle.std.specs.Prelude.{◌≡◌, ◌++◌, [], IfOk, OnOk};
 ghost use Rattle.round_driver.specs.Rounds as rounds;
 ghost use Rattle.round_driver.specs.Walks as walks;
 ghost use Rattle.result_figures.specs.Lives as lives;
 
+use crate::seen::Flight;
 use flat_model::{Answer, Event, Word};
 use machine_core::Lookup;
 use round_driver::Note;
 use std::alloc::{AllocError, Global};
 
-/// A request that ended.
+/// A request, and how it ended.
 #[derive(Clone, Copy)]
 pub(crate) struct Life {
     pub(crate) event: Event,
-    // The round that first asked it, and the one that ended it.
+    // The turn that first asked it, and the one that asked it last.
     pub(crate) asked: u64,
     pub(crate) ended: u64,
     pub(crate) answer: Answer,
@@ -49,28 +50,53 @@ fn is_end(answer: Answer) -> bool
     }
 }
 
-// The round that first asked the request at hand.
-fn since_of(since: Option<u64>, note: &Note) -> u64
-    ensures { result ≡ lives.since_of since note.now }
+fn is_same(event: Event, other: Event) -> bool
+    ensures { result ≡ lives.is_same event other }
 {
-    since.unwrap_or(note.round)
+    event == other
 }
 
-/// The requests of these notes that ended, in order.
+// The turn that first asked a request.
+fn since_of(refused: Option<Life>, note: &Note) -> u64
+    ensures { result ≡ lives.since_of refused note.now }
+{
+    match refused {
+        Some(life) if is_same(life.event, note.event) => life.asked,
+        _ => note.round,
+    }
+}
+
+fn push_given_up(all: &mut Vec<Life>, refused: Option<Life>, note: &Note) -> Result<(), AllocError>
+    ensures { OnOk result (all.new.items ≡ all.old.items ++ lives.given_up refused note.now) }
+{
+    if let Some(life) = refused {
+        if !is_same(life.event, note.event) {
+            all.push(life)?;
+        }
+    }
+    Ok(())
+}
+
+/// The requests of these notes, in order.
 pub(crate) fn lives_of(alloc: Global, notes: &[Note]) -> Result<Vec<Life>, AllocError>
     ensures { IfOk result (λ all. all.items ≡ lives.lives_of notes.now) }
 {
     let mut all = Vec::new(alloc);
-    let mut since = None;
+    let mut refused = None;
     for note in notes {
         if is_request(note.event) {
-            let asked = since_of(since, note);
-            since = Some(asked);
+            push_given_up(&mut all, refused, note)?;
+            let life = life_of(since_of(refused, note), note);
             if is_end(note.answer) {
-                all.push(life_of(asked, note))?;
-                since = None;
+                all.push(life)?;
+                refused = None;
+            } else {
+                refused = Some(life);
             }
         }
+    }
+    if let Some(life) = refused {
+        all.push(life)?;
     }
     Ok(all)
 }
@@ -121,4 +147,14 @@ pub(crate) fn returned_to(life: &Life, notes: &[Note]) -> Option<Returned>
         }
     }
     None
+}
+
+/// The block that a request sent for.
+pub(crate) fn sent_by(life: &Life, flights: &[Flight]) -> Option<Flight>
+    ensures { result ≡ lives.sent_by life.now flights.now }
+{
+    flights
+        .iter()
+        .copied()
+        .find(|flight| flight.from == life.ended)
 }

@@ -41,6 +41,7 @@ pub(crate) fn class_of(shade: Shade) -> &'static str {
         Shade::Hit => "hit",
         Shade::Join => "join",
         Shade::Miss => "miss",
+        Shade::Flight => "flight",
     }
 }
 
@@ -60,5 +61,6 @@ text { font: 30px Arial, 'Liberation Sans', Helvetica, sans-serif; fill: #111; p
 .lost, .miss { fill: #0072b2; }
 .join { fill: #a6d8f5; stroke: #111; stroke-width: 2; }
 .hit { fill: #111; }
+.flight { fill: #d55e00; }
 </style>
 ";

@@ -43,6 +43,8 @@ pub enum Shade {
     Join,
     /// Its block was asked for.
     Miss,
+    /// The block that it asked for is on its way.
+    Flight,
 }
 
 /// What is counted beside lost rounds.
@@ -111,15 +113,22 @@ pub enum Omission {
     Denied(Denials),
     /// Requests that aren't drawn.
     Undrawn(Undrawn),
+    /// Recorded answers, of which the first that isn't the machine's is this event's.
+    Recorded(u64),
 }
 
 impl fmt::Display for Omission {
     ghost output = { λ it. Some (omission_text it) };
 
+    #[tactic(auto, unfolding(crate::specs::Marks::recorded_text))]
     fn fmt<W: fmt::Write>(&self, f: &mut fmt::Formatter<W>) -> fmt::Result {
         match *self {
             Omission::Denied(it) => write!(f, "{it}"),
             Omission::Undrawn(it) => write!(f, "{it}"),
+            Omission::Recorded(event) => write!(
+                f,
+                "event {event} has another recorded answer: the machine's are drawn"
+            ),
         }
     }
 }

@@ -67,6 +67,16 @@ pub(crate) fn put_times(
     put_text(out, Place::note(x, y, 290), words.as_str())
 }
 
+/// What an axis of events counts.
+pub(crate) fn put_events_note(out: &mut String, layout: &Layout) -> Result<(), AllocError> {
+    let (x, y) = layout.times_at(0);
+    put_text(
+        out,
+        Place::note(x, y, ROOM),
+        "The axis counts events, each a line of the trace, and no time.",
+    )
+}
+
 pub(crate) fn put_omission(
     alloc: Global,
     out: &mut String,

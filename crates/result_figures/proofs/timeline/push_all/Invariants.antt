@@ -1,6 +1,0 @@
-use Rattle.std.proofs.Common.{◌≡◌, ◌++◌, take, map}
-use Rattle.result_figures.specs.Timelines.{all_marks, told}
-use Rattle.result_figures.proofs.timeline.push_all.Given as goal
-
-abbrev pub invariant-loop-run : goal.invariant-loop-run
-invariant-loop-run l = l.marks.items ≡ l.initial.marks.items ++ all_marks (map told (take l.run-index l.runs))
