@@ -10,7 +10,7 @@
 
 mod asked;
 mod calls;
-mod coverage;
+mod counts;
 mod handle;
 mod history;
 mod open;
@@ -21,7 +21,7 @@ mod units;
 
 pub use asked::{may_return, unanswered};
 pub use calls::{load_request, load_response, store_request, store_response};
-pub use coverage::{cover, coverage};
+pub use counts::{cover, coverage};
 pub use handle::HistoryHandle;
 pub use history::OpenHistory;
 pub use open::{free_history, open_history};

@@ -1,4 +1,4 @@
-use Rattle.std.proofs.Common.{◌≡◌, ℕ, ◌<◌, false, slice_index}
+use Rattle.std.proofs.Common.{ℕ, ◌<◌, false, slice_index}
 use Rattle.history_reasons.specs.Units.{address_at}
 use Rattle.history_sessions.specs.Choices.{IsTold}
 use Rattle.history_sessions.specs.History.{History}
