@@ -1,6 +1,6 @@
 -- What is counted of the history behind a handle, and how C is told of it.
-use Rattle.std.specs.Prelude.{⊤, ℕ, ◌≡◌, Option, Some, None, zero, suc}
-use Rattle.std.specs.Option.{option_map, option_and_then}
+use Rattle.std.specs.Prelude.{ℕ, ◌≡◌, Option, Some, None, zero, suc}
+use Rattle.std.specs.Option.{option_and_then}
 use Rattle.memory_histories.specs.declared.events.HistoryEvent.{HistoryEvent}
 use Rattle.history_sessions.specs.Choices.{coverage_of, IsCounted}
 use Rattle.history_sessions.specs.Coverage.{Covered, nothing_covered}

@@ -2,7 +2,8 @@
 ghost use Rattle.std.specs.Prelude.{◌≡◌, ◌<◌, vec_len, map, false, Some, IfSome, OnOk};
 ghost use Rattle.std.specs.List.{list_any, find, position};
 ghost use Rattle.history_sessions.specs.Coverage.{mask_of, do_meet, has_common, are_beside, noted_if, noted_beside, requested, more_if};
-ghost use Rattle.history_sessions.specs.Coverage.{counted, is_under, answered_from, answered_at, answered, shown, nothing_covered, watched, covered_after, HasRoom};
+ghost use Rattle.history_sessions.specs.Coverage.{counted, is_under, answered_from, answered_at, answered, shown, nothing_covered};
+ghost use Rattle.history_sessions.specs.Coverage.{watched, covered_after, HasRoom};
 
 use memory_histories::HistoryEvent;
 use std::alloc::{AllocError, Global};
