@@ -713,6 +713,25 @@ typedef struct {
 uint32_t kroft_history_unanswered(const kroft_history *handle, uint32_t kind, uint64_t n, kroft_history_operation *operation,
                                   uint64_t *count);
 
+/* What was counted of a history. A count stays at 2^64 - 1. */
+typedef struct {
+    uint64_t loads;        /* loads that were answered                                                           */
+    uint64_t choices;      /* of these, the ones of which some byte might have been another, by the law          */
+    uint64_t beside_store; /* and the ones that were open at once with a store to one of their bytes             */
+    uint64_t overtaking;   /* loads and stores that were answered before an older one with a byte in common      */
+} kroft_history_counts;
+
+/*
+ * Counts from here on, anew if it did so before: of each operation that is requested from now on, its answer. A bench
+ * whose loads never have a choice hardly tests the memory's order. From then on a load's answer takes longer: each of its
+ * bytes is asked about as by kroft_history_may_return, which by the atomic law is a search. A load has no choice at a byte
+ * of which that has no verdict. A store has the bytes that it enables. Returns KROFT_OK or KROFT_FAIL_CLOSED.
+ */
+uint32_t kroft_history_cover(kroft_history *handle);
+
+/* What was counted. Returns KROFT_OK; KROFT_ABSENT: nothing is counted, and nothing written; or KROFT_FAIL_CLOSED. */
+uint32_t kroft_history_coverage(const kroft_history *handle, kroft_history_counts *counts);
+
 /* ---- traffic ----------------------------------------------------------------------------------- */
 
 /*
@@ -805,6 +824,8 @@ KROFT_ASSERT(history_size, sizeof(kroft_history) == 16);
 KROFT_ASSERT(history_at, offsetof(kroft_history, at) == 8);
 KROFT_ASSERT(reason_size, sizeof(kroft_history_reason) == 56);
 KROFT_ASSERT(reason_reason, offsetof(kroft_history_reason, reason) == 48);
+KROFT_ASSERT(history_counts_size, sizeof(kroft_history_counts) == 32);
+KROFT_ASSERT(history_counts_overtaking, offsetof(kroft_history_counts, overtaking) == 24);
 KROFT_ASSERT(operation_size, sizeof(kroft_history_operation) == 24);
 KROFT_ASSERT(operation_address, offsetof(kroft_history_operation, address) == 8);
 KROFT_ASSERT(operation_length, offsetof(kroft_history_operation, length) == 16);

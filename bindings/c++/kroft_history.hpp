@@ -124,6 +124,17 @@ public:
     /// has no units. From there on its bytes are unknown, and the other units are judged on.
     void forget(uint64_t address) { done(kroft_history_forget(&handle, address)); }
 
+    /// Counts from here on, anew if it did so before: of each operation that is requested from now on, its answer. A load's
+    /// answer then takes longer.
+    void cover() { done(kroft_history_cover(&handle)); }
+
+    /// What was counted; none if nothing is.
+    std::optional<kroft_history_counts> coverage() const {
+        kroft_history_counts counts{};
+        if (told(kroft_history_coverage(&handle, &counts)).fault() != KROFT_OK) return std::nullopt;
+        return counts;
+    }
+
     /// The operations that are open, in the order of their requests.
     std::vector<kroft_history_operation> open_loads() const { return operations(KROFT_LOAD); }
     std::vector<kroft_history_operation> open_stores() const { return operations(KROFT_STORE); }

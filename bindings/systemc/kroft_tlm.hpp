@@ -48,6 +48,7 @@ public:
     virtual Fault failed_load(uint64_t id) = 0;
     virtual Fault failed_store(uint64_t id) = 0;
     virtual std::vector<Access> unanswered() const = 0;
+    virtual std::optional<kroft_history_counts> coverage() const { return std::nullopt; }
     /// Whether a load asks for all of its bytes, so that one with byte enables has to be several.
     virtual bool loads_whole() const = 0;
 };
@@ -127,6 +128,8 @@ public:
         for (const auto &each : open) found.push_back(each.second.access);
         return found;
     }
+
+    std::optional<kroft_history_counts> coverage() const override { return history.coverage(); }
 
     bool loads_whole() const override { return true; }
 
@@ -253,6 +256,10 @@ public:
 
     /// The parts of transactions that wait for their answers, the oldest first. The ids count the parts.
     std::vector<Access> unanswered() const { return judge->unanswered(); }
+
+    /// What was counted of them; none, unless the history counts (History::cover) when it is given to the watch. By the atomic
+    /// law a load that failed is never answered, so operations overtake it for ever.
+    std::optional<kroft_history_counts> coverage() const { return judge->coverage(); }
 
 private:
     template <unsigned> friend class Monitor;

@@ -116,13 +116,15 @@ int kroft_sv_open_count(void *history);
 int kroft_sv_open_operation(void *history, int n, int *is_store, unsigned long long *id, unsigned long long *address, int *size,
                             unsigned long long *now);
 
-/* What makes a history tell something, and how often it was seen. The numbers are those of kroft_history_point. */
+/* What makes a history tell something, and how often it was seen. The numbers are those of kroft_history_point. By the atomic
+   law a load that failed stays open in the library, and so is overtaken for ever. */
 enum {
-    KROFT_SV_LOAD_BESIDE_STORE = 0,  /* a load and a store that are open at once, at one byte                 */
+    KROFT_SV_LOAD_BESIDE_STORE = 0,  /* a load, once it is answered, beside a store to one of its bytes       */
     KROFT_SV_STORES_AT_ONCE = 1,     /* two stores that are open at once, at one byte                         */
     KROFT_SV_PARTIAL_UNDER_LOAD = 2, /* a store that leaves out a byte of its own, to a byte of an open load  */
     KROFT_SV_OVERTAKEN = 3,          /* an answer before that of an older request, at one byte                */
-    KROFT_SV_POINTS = 4
+    KROFT_SV_LOAD_WITH_CHOICE = 4,   /* a load, once it is answered, that might have got another byte         */
+    KROFT_SV_POINTS = 5
 };
 unsigned long long kroft_sv_seen(void *history, int point);
 

@@ -29,13 +29,14 @@ typedef struct {
     uint64_t told_count;
     int is_wrong; /* an answer was wrong data, and `why` says more of the last such */
     kroft_history_reason why;
-    uint64_t seen[KROFT_SV_POINTS];
+    uint64_t stores_at_once, partial_under_load; /* the library counts the other points */
 } history_state;
 
 static void open_history(history_state *h) {
     static const uint8_t none = 0;
     if (h->history.open) return;
     if (kroft_history_open(&h->history, h->law, h->unit, h->rest, h->image ? h->image : &none, h->image_bytes) != KROFT_OK) must(NULL);
+    kroft_history_cover(&h->history);
     free(h->image);
     h->image = NULL;
 }
@@ -111,24 +112,15 @@ static int is_partial(const access *a) {
 
 /* Counts a request under each point that it makes with those that are open. */
 static void count_request(history_state *h, const access *a) {
-    int makes[KROFT_SV_POINTS] = {0}, point;
+    int at_once = 0, under_load = 0;
     const operation *o;
-    for (o = h->oldest; o; o = o->newer) {
-        if ((!a->is_store && !o->asked.is_store) || !is_beside(&o->asked, a)) continue;
-        if (o->asked.is_store == a->is_store) makes[KROFT_SV_STORES_AT_ONCE] = 1;
-        else makes[KROFT_SV_LOAD_BESIDE_STORE] = 1;
-        if (!o->asked.is_store && is_partial(a)) makes[KROFT_SV_PARTIAL_UNDER_LOAD] = 1;
+    for (o = h->oldest; a->is_store && o; o = o->newer) {
+        if (!is_beside(&o->asked, a)) continue;
+        if (o->asked.is_store) at_once = 1;
+        else if (is_partial(a)) under_load = 1;
     }
-    for (point = 0; point < KROFT_SV_POINTS; point++) h->seen[point] += (uint64_t)makes[point];
-}
-
-static void count_response(history_state *h, const operation *answered) {
-    const operation *o;
-    for (o = answered->older; o; o = o->older)
-        if (is_beside(&o->asked, &answered->asked)) {
-            h->seen[KROFT_SV_OVERTAKEN]++;
-            return;
-        }
+    h->stores_at_once += (uint64_t)at_once;
+    h->partial_under_load += (uint64_t)under_load;
 }
 
 static void keep(history_state *h, map *waiting, const access *a, uint64_t number, uint64_t now) {
@@ -267,7 +259,6 @@ int kroft_sv_load_response(void *history, unsigned long long id, const kroft_fou
                                           : told(h, kroft_history_load_response(&h->history, o->number, bytes, (size_t)o->asked.size));
     say_answer(h, o, reason);
     if (reason == KROFT_SV_UNDECIDED) return reason;
-    count_response(h, o);
     if (reason == KROFT_SV_WRONG_DATA) {
         say_bytes(h->text, &o->asked, ": got ", bytes);
         say_why(h, o, bytes);
@@ -286,7 +277,6 @@ static int end_store_of(history_state *h, uint64_t id, int failed) {
     if (reason == KROFT_SV_RIGHT) reason = failed;
     say_answer(h, o, reason);
     if (reason == KROFT_SV_UNDECIDED) return reason;
-    count_response(h, o);
     end_operation(h, o);
     return reason;
 }
@@ -364,5 +354,15 @@ int kroft_sv_open_operation(void *history, int n, int *is_store, unsigned long l
 }
 
 unsigned long long kroft_sv_seen(void *history, int point) {
-    return point >= 0 && point < KROFT_SV_POINTS ? ((const history_state *)history)->seen[point] : 0;
+    const history_state *h = (const history_state *)history;
+    kroft_history_counts counts = {0, 0, 0, 0}; /* before the first event nothing is written */
+    kroft_history_coverage(&h->history, &counts);
+    switch (point) {
+    case KROFT_SV_LOAD_BESIDE_STORE: return counts.beside_store;
+    case KROFT_SV_STORES_AT_ONCE: return h->stores_at_once;
+    case KROFT_SV_PARTIAL_UNDER_LOAD: return h->partial_under_load;
+    case KROFT_SV_OVERTAKEN: return counts.overtaking;
+    case KROFT_SV_LOAD_WITH_CHOICE: return counts.choices;
+    default: return 0;
+    }
 }

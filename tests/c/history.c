@@ -192,6 +192,40 @@ static void operations(void) {
     CHECK(kroft_history_close(&h) == KROFT_OK);
 }
 
+static int has_counted(const kroft_history *h, uint64_t loads, uint64_t choices, uint64_t beside_store, uint64_t overtaking) {
+    kroft_history_counts n = {9, 9, 9, 9};
+    return kroft_history_coverage(h, &n) == KROFT_OK && n.loads == loads && n.choices == choices && n.beside_store == beside_store &&
+           n.overtaking == overtaking;
+}
+
+/* What is counted: of what is requested once it is asked for, each answer. A load that is open at once with a store to its byte has a
+   choice by the regular and the atomic law, and none by the flat one. */
+static void coverage(uint32_t law, uint32_t unit, uint64_t choices) {
+    static const uint8_t zeros[4] = {0, 0, 0, 0}, stored[2] = {7, 8}, after[4] = {0, 0, 0, 8};
+    kroft_history h = KROFT_NO_HISTORY;
+    kroft_history_counts n = {5, 6, 7, 8};
+    CHECK(kroft_history_cover(&h) == KROFT_FAIL_CLOSED && kroft_history_coverage(&h, &n) == KROFT_FAIL_CLOSED && n.loads == 5);
+    CHECK(kroft_history_open(&h, law, unit, KROFT_ZEROS, NULL, 0) == KROFT_OK);
+    CHECK(kroft_history_coverage(&h, &n) == KROFT_ABSENT && n.overtaking == 8);
+    CHECK(kroft_history_load_request(&h, 1, 16, 4) == KROFT_OK && kroft_history_cover(&h) == KROFT_OK && has_counted(&h, 0, 0, 0, 0));
+    CHECK(kroft_history_load_response(&h, 1, zeros, 4) == KROFT_OK && has_counted(&h, 0, 0, 0, 0));
+    CHECK(kroft_history_load_request(&h, 1, 16, 4) == KROFT_OK && kroft_history_store_request(&h, 1, 18, stored, 2, 2) == KROFT_OK);
+    CHECK(kroft_history_load_request(&h, 2, 17, 2) == KROFT_OK && has_counted(&h, 0, 0, 0, 0));
+    CHECK(kroft_history_load_response(&h, 2, zeros, 2) == KROFT_OK && has_counted(&h, 1, 0, 0, 1)); /* it overtakes load 1 */
+    CHECK(kroft_history_load_response(&h, 1, stored, 2) == KROFT_FAIL_WRONG_LENGTH && has_counted(&h, 1, 0, 0, 1));
+    CHECK(kroft_history_load_response(&h, 1, zeros, 4) == KROFT_OK && has_counted(&h, 2, choices, 1, 1));
+    CHECK(kroft_history_load_request(&h, 1, 16, 4) == KROFT_OK && kroft_history_store_response(&h, 1) == KROFT_OK);
+    CHECK(kroft_history_load_response(&h, 1, after, 4) == KROFT_OK && has_counted(&h, 3, 2 * choices, 2, 1));
+    CHECK(kroft_history_load_request(&h, 1, 16, 4) == KROFT_OK && kroft_history_load_response(&h, 1, zeros, 4) == KROFT_FAIL_WRONG_BYTE);
+    CHECK(has_counted(&h, 3, 2 * choices, 2, 1) && kroft_history_load_response(&h, 1, after, 4) == KROFT_OK && has_counted(&h, 4, 2 * choices, 2, 1));
+    CHECK(kroft_history_store_request(&h, 1, 16, zeros, 1, 1) == KROFT_OK && kroft_history_store_request(&h, 2, 17, zeros, 1, 1) == KROFT_OK);
+    CHECK(kroft_history_store_response(&h, 2) == KROFT_OK && has_counted(&h, 4, 2 * choices, 2, 1)); /* no byte in common */
+    CHECK(kroft_history_store_request(&h, 2, 0, stored, 2, 3) == KROFT_OK && kroft_history_store_request(&h, 3, 1, stored, 1, 1) == KROFT_OK);
+    CHECK(kroft_history_store_response(&h, 3) == KROFT_OK && has_counted(&h, 4, 2 * choices, 2, 2));
+    CHECK(kroft_history_cover(&h) == KROFT_OK && has_counted(&h, 0, 0, 0, 0));
+    CHECK(kroft_history_close(&h) == KROFT_OK);
+}
+
 /* What is opened, in the order in which faults are looked for; and a closed handle. */
 static void handles(void) {
     static const uint8_t bytes[1] = {1};
@@ -218,6 +252,9 @@ int main(void) {
     sets();
     places();
     operations();
+    coverage(KROFT_REGULAR_LAW, 1, 1);
+    coverage(KROFT_FLAT_LAW, 1, 0);
+    coverage(KROFT_ATOMIC_LAW, 8, 1);
     handles();
     return checks_end("history");
 }

@@ -109,6 +109,29 @@ void reasons() {
     check(!history.why(1, second, 1) && !history.why(2, first, 1), "no byte is wrong");
 }
 
+bool has_counted(const kroft::History &history, uint64_t loads, uint64_t choices, uint64_t beside_store, uint64_t overtaking) {
+    auto counts = history.coverage();
+    return counts && counts->loads == loads && counts->choices == choices && counts->beside_store == beside_store &&
+           counts->overtaking == overtaking;
+}
+
+/* What is counted, once it is asked for; also of one that is moved. */
+void coverage() {
+    const uint8_t old[2] = {0, 0}, later[1] = {0x5a};
+    for (kroft::Law law : {kroft::Law::Regular, kroft::Law::Flat, kroft::Law::Atomic}) {
+        kroft::History first(law);
+        check(!first.coverage(), "nothing is counted");
+        first.cover();
+        check(first.load_request(1, 0x10, 2) && first.store_request(1, 0x11, later, 1) && first.load_request(2, 0x10, 1), "requests");
+        check(first.load_response(2, old, 1) && has_counted(first, 1, 0, 0, 1), "a load that overtakes another");
+        kroft::History history(std::move(first));
+        check(history.load_response(1, old, 2) && history.store_response(1), "a load beside a store");
+        check(has_counted(history, 2, law == kroft::Law::Flat ? 0 : 1, 1, 1), "it is counted");
+        history.cover();
+        check(has_counted(history, 0, 0, 0, 0), "counts begin anew");
+    }
+}
+
 /* A unit without a verdict is told as such, and forgotten; the rest is judged on. */
 void undecided() {
     kroft::History history(kroft::Law::Atomic);
@@ -219,6 +242,7 @@ int main() {
     no_bytes();
     new_then_old();
     reasons();
+    coverage();
     undecided();
     for (unsigned seed = 0; seed < 5; seed++) {
         for (kroft::Law law : {kroft::Law::Regular, kroft::Law::Atomic})

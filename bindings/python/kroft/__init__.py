@@ -39,7 +39,7 @@ from .events import (
     Take,
     Value,
 )
-from .history import History, HistoryFault, Law, NotLawful, Operation, SeenStore, Undecided
+from .history import Coverage, History, HistoryFault, Law, NotLawful, Operation, SeenStore, Undecided
 from .judge import FlatJudge, StepJudge
 from .machine import (
     Arrival,
@@ -74,6 +74,7 @@ __all__ = [
     "Closed",
     "Command",
     "Counts",
+    "Coverage",
     "Drain",
     "Event",
     "Evict",

@@ -8,7 +8,7 @@ from typing import FrozenSet, List, NamedTuple, NoReturn, Optional, SupportsInde
 
 from .data import Buffer, bytes_of
 from .errors import Access, Closed, KroftError, Unanswered
-from .library import Handle, OperationRow, ReasonRow, library
+from .library import Handle, HistoryCountsRow, OperationRow, ReasonRow, library
 
 _OK, _CLOSED, _OUT_OF_MEMORY, _UNDECIDED, _NO_UNITS, _WRONG_BYTE = 0, 100, 101, 105, 108, 156
 _FIRST_OVERWRITTEN, _STORE_OVERWRITTEN = 162, 163
@@ -79,6 +79,15 @@ class Operation(NamedTuple):
     number: int
     address: int
     length: int
+
+
+class Coverage(NamedTuple):
+    """What was counted of a history: answers to what was requested since `History.cover`."""
+
+    loads: int  #: loads that were answered
+    choices: int  #: of these, the ones of which some byte might have been another
+    beside_store: int  #: and the ones that were open at once with a store to one of their bytes
+    overtaking: int  #: loads and stores that were answered before an older one with a byte in common
 
 
 class History:
@@ -167,6 +176,18 @@ class History:
             raise MemoryError(f"the unit with {address:#x} was not forgotten")
         if status == _NO_UNITS:
             raise ValueError(f"the {self.law.name.lower()} law has no units")
+
+    def cover(self) -> None:
+        """Counts from here on, anew if it did so before: of each operation that is requested from now on, its answer. A load's
+        answer then takes longer."""
+        self._call("kroft_history_cover")
+
+    def coverage(self) -> Optional[Coverage]:
+        """What was counted; None if nothing is."""
+        row = HistoryCountsRow()
+        if self._call("kroft_history_coverage", c.byref(row)) != _OK:
+            return None
+        return Coverage(row.loads, row.choices, row.beside_store, row.overtaking)
 
     def open_loads(self) -> List[Operation]:
         """The loads that are open, in the order of their requests."""

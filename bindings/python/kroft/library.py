@@ -129,6 +129,10 @@ class OperationRow(c.Structure):
     _fields_ = [("number", u64), ("address", u64), ("length", u64)]
 
 
+class HistoryCountsRow(c.Structure):
+    _fields_ = [(name, u64) for name in ("loads", "choices", "beside_store", "overtaking")]
+
+
 class PlanRow(c.Structure):
     _fields_ = [
         ("base", u64),
@@ -181,6 +185,8 @@ def declare(library: c.CDLL) -> c.CDLL:
         "kroft_history_why": [handle, u64, out, c.c_size_t, out],
         "kroft_history_forget": [handle, u64],
         "kroft_history_undecided": [handle, out],
+        "kroft_history_cover": [handle],
+        "kroft_history_coverage": [handle, out],
         "kroft_history_unanswered": [handle, u32, u64, out, out],
         "kroft_machine_open": [handle, out, out, c.c_size_t],
         "kroft_machine_close": [handle],

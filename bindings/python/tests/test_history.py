@@ -8,7 +8,7 @@ import threading
 import unittest
 from typing import Any, Callable, Dict, List, Optional, Tuple, Type
 
-from kroft import Closed, History, HistoryFault, Law, NotLawful, Operation, SeenStore, Unanswered, Undecided
+from kroft import Closed, Coverage, History, HistoryFault, Law, NotLawful, Operation, SeenStore, Unanswered, Undecided
 from whole import whole
 
 
@@ -106,6 +106,22 @@ class Histories(unittest.TestCase):
         self.assertEqual([(it.kind, it.id, it.address, it.size) for it in lost.exception.accesses], [("load", 7, 0x20, 4), ("store", 8, 0x30, 4)])
         with self.assertRaises(Closed):
             history.load_request(1, 0, 1)
+
+    def test_what_is_counted(self) -> None:
+        for law, choices in [(Law.REGULAR, 1), (Law.FLAT, 0), (Law.ATOMIC, 1)]:
+            with self.subTest(law=law), History(law) as history:
+                self.assertIsNone(history.coverage())
+                history.cover()
+                history.load_request(1, 0x1000, 2)
+                history.store_request(1, 0x1001, b"\x5a")
+                history.load_request(2, 0x1000, 1)
+                history.load_response(2, b"\x00")
+                self.assertEqual(history.coverage(), Coverage(loads=1, choices=0, beside_store=0, overtaking=1))
+                history.load_response(1, b"\x00\x00")
+                history.store_response(1)
+                self.assertEqual(history.coverage(), Coverage(loads=2, choices=choices, beside_store=1, overtaking=1))
+                history.cover()
+                self.assertEqual(history.coverage(), Coverage(0, 0, 0, 0))
 
     def test_one_that_is_closed_before_its_end(self) -> None:
         with History() as history:

@@ -187,10 +187,12 @@ struct Bench : sc_core::sc_module {
         a.set_data_ptr(first);
         shape(b, false, 0x44, 8, 8);
         b.set_data_ptr(second);
+        auto counted = watch.coverage();
         begin(a);
         begin(b);
         check(__LINE__, monitor.open() == 2 && watch.unanswered().size() == 2);
         memory.answer(1);
+        if (counted) check(__LINE__, watch.coverage()->loads == counted->loads + 1 && watch.coverage()->overtaking == counted->overtaking + 1);
         memory.answer(0);
         check(__LINE__, watch.errors() == before && monitor.open() == 0);
         memory.answer(0);
@@ -239,12 +241,18 @@ struct Bench : sc_core::sc_module {
     tlm_generic_payload lost;
 };
 
+kroft::History counting(kroft::Law law) {
+    kroft::History history(law);
+    history.cover();
+    return history;
+}
+
 } // namespace
 
 int sc_main(int, char **) {
     const kroft::Range range{0, 4095};
-    Bench flat("flat", kroft::Watch(range)), regular("regular", kroft::Watch(kroft::History(), range));
-    Bench atomic("atomic", kroft::Watch(kroft::History(kroft::Law::Atomic), range));
+    Bench flat("flat", kroft::Watch(range)), regular("regular", kroft::Watch(counting(kroft::Law::Regular), range));
+    Bench atomic("atomic", kroft::Watch(counting(kroft::Law::Atomic), range));
     Bench *const benches[] = {&flat, &regular, &atomic};
     sc_core::sc_report_handler::set_actions(sc_core::SC_ERROR, sc_core::SC_DO_NOTHING);
     sc_core::sc_report_handler::set_actions(sc_core::SC_WARNING, sc_core::SC_DO_NOTHING);
@@ -257,6 +265,7 @@ int sc_main(int, char **) {
         bench->actions();
     }
     atomic.undecided();
+    flat.check(__LINE__, !flat.watch.coverage() && regular.watch.coverage() && atomic.watch.coverage());
     int warnings = sc_core::sc_report_handler::get_count(sc_core::SC_WARNING), wrong = 0;
     for (Bench *bench : benches) bench->no_answer();
     sc_core::sc_stop();

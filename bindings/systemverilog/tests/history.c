@@ -226,10 +226,13 @@ static void open_operations(void) {
     EXPECT(kroft_sv_store_request(history, FAR, FAR + 2, 4, data_of(zeros, 4), 0xd, 4) == KROFT_SV_RIGHT); /* its byte 0 is the load's 2 */
     EXPECT(kroft_sv_store_request(history, 1, FAR + 3, 1, data_of(zeros, 1), 1, 5) == KROFT_SV_RIGHT);     /* what the first leaves out */
     EXPECT(kroft_sv_store_request(history, 2, FAR + 5, 1, data_of(zeros, 1), 1, 6) == KROFT_SV_RIGHT);     /* its byte 3 */
-    EXPECT(kroft_sv_seen(history, KROFT_SV_LOAD_BESIDE_STORE) == 2 && kroft_sv_seen(history, KROFT_SV_STORES_AT_ONCE) == 1);
+    EXPECT(kroft_sv_seen(history, KROFT_SV_LOAD_BESIDE_STORE) == 0 && kroft_sv_seen(history, KROFT_SV_STORES_AT_ONCE) == 1);
     EXPECT(kroft_sv_seen(history, KROFT_SV_PARTIAL_UNDER_LOAD) == 1 && kroft_sv_seen(history, KROFT_SV_OVERTAKEN) == 0);
     EXPECT(stored(1) == KROFT_SV_RIGHT && kroft_sv_seen(history, KROFT_SV_OVERTAKEN) == 1);
     EXPECT(kroft_sv_load_response(history, FAR, data_of(zeros, 4)) == KROFT_SV_RIGHT && kroft_sv_seen(history, KROFT_SV_OVERTAKEN) == 1);
+    EXPECT(kroft_sv_seen(history, KROFT_SV_LOAD_BESIDE_STORE) == 1 && kroft_sv_seen(history, KROFT_SV_LOAD_WITH_CHOICE) == 0); /* zeros alone */
+    EXPECT(load(9, FAR, 6) == KROFT_SV_RIGHT && store(9, FAR, 1, 6) == KROFT_SV_RIGHT && value(9, 1) == KROFT_SV_RIGHT && stored(9) == KROFT_SV_RIGHT);
+    EXPECT(kroft_sv_seen(history, KROFT_SV_LOAD_BESIDE_STORE) == 2 && kroft_sv_seen(history, KROFT_SV_LOAD_WITH_CHOICE) == 1);
     EXPECT(kroft_sv_seen(history, -1) == 0 && kroft_sv_seen(history, KROFT_SV_POINTS) == 0 && kroft_sv_open_count(history) == 2);
     EXPECT(kroft_sv_open_operation(history, 0, &is_store, &id, &address, &size, &now) == 1);
     EXPECT(is_store == 1 && id == FAR && address == FAR + 2 && size == 4 && now == 4);

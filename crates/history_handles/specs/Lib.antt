@@ -8,3 +8,4 @@ pub mod Opening
 pub mod Status
 pub mod Calls
 pub mod Why
+pub mod Coverage

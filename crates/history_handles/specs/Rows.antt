@@ -1,11 +1,17 @@
--- Operations, and sets of bytes, as rows.
+-- Operations, counts and sets of bytes as rows.
 use Rattle.std.specs.Prelude.{ℕ, ◌≡◌, ◌+◌, ◌*◌, ◌<◌, Bool, if◌then◌else◌, List, length, slice_index}
 use Rattle.history_reasons.specs.declared.open.OpenOperation.{OpenOperation}
+use Rattle.history_sessions.specs.declared.coverage.Counts.{Counts}
+use Rattle.history_handles.specs.declared.rows.HistoryCounts.{HistoryCounts}
 use Rattle.history_handles.specs.declared.rows.Operation.{Operation}
 
 -- an open operation
 abbrev pub row_of : OpenOperation → Operation
 row_of o = record { number = o.number; address = o.address; length = o.length }
+
+-- what was counted
+abbrev pub counts_row : Counts → HistoryCounts
+counts_row n = record { loads = n.loads; choices = n.choices; beside_store = n.beside_store; overtaking = n.overtaking }
 
 -- this weight for a byte that is in a set, else 0
 abbrev pub weight_in : (ℕ → Bool) → ℕ → ℕ → ℕ

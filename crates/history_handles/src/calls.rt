@@ -4,6 +4,7 @@ ghost use Rattle.memory_histories.specs.declared.events.HistoryEvent.TheVariants
 ghost use Rattle.history_sessions.specs.Session.{Session};
 ghost use Rattle.history_handles.specs.Behind.{IsBehind};
 ghost use Rattle.history_handles.specs.Calls.{IsEventTold};
+ghost use Rattle.history_handles.specs.Coverage.{IsEventCounted};
 
 use crate::handle::HistoryHandle;
 use crate::status::{CLOSED, DONE, judge_number};
@@ -22,9 +23,12 @@ pub fn load_request(
     address: u64,
     length: usize,
 ) -> u32
-    ensures { (b : Option Session)
+    ensures told { (b : Option Session)
         → IsBehind handle.old b
         → IsEventTold result handle.old handle.new b (LoadRequest number address length) }
+    ensures coverage { (b : Option Session)
+        → IsBehind handle.old b
+        → IsEventCounted result handle.old handle.new b (LoadRequest number address length) }
 {
     tell(
         alloc,
@@ -44,9 +48,12 @@ pub fn load_request(
 /// words are kept of it; [`undecided`](crate::undecided) tells which. Others, and what they leave:
 /// as of [`load_request`].
 pub fn load_response(alloc: Global, handle: &mut HistoryHandle, number: u64, bytes: &[u8]) -> u32
-    ensures { (b : Option Session)
+    ensures told { (b : Option Session)
         → IsBehind handle.old b
         → IsEventTold result handle.old handle.new b (LoadResponse number bytes.entry) }
+    ensures coverage { (b : Option Session)
+        → IsBehind handle.old b
+        → IsEventCounted result handle.old handle.new b (LoadResponse number bytes.entry) }
 {
     tell(alloc, handle, HistoryEvent::LoadResponse { number, bytes })
 }
@@ -62,9 +69,12 @@ pub fn store_request(
     bytes: &[u8],
     enables: u64,
 ) -> u32
-    ensures { (b : Option Session)
+    ensures told { (b : Option Session)
         → IsBehind handle.old b
         → IsEventTold result handle.old handle.new b (StoreRequest number address bytes.entry enables) }
+    ensures coverage { (b : Option Session)
+        → IsBehind handle.old b
+        → IsEventCounted result handle.old handle.new b (StoreRequest number address bytes.entry enables) }
 {
     tell(
         alloc,
@@ -82,9 +92,12 @@ pub fn store_request(
 ///
 /// 0: taken. 154: no such store. Others as of [`load_response`].
 pub fn store_response(alloc: Global, handle: &mut HistoryHandle, number: u64) -> u32
-    ensures { (b : Option Session)
+    ensures told { (b : Option Session)
         → IsBehind handle.old b
         → IsEventTold result handle.old handle.new b (StoreResponse number) }
+    ensures coverage { (b : Option Session)
+        → IsBehind handle.old b
+        → IsEventCounted result handle.old handle.new b (StoreResponse number) }
 {
     tell(alloc, handle, HistoryEvent::StoreResponse { number })
 }
@@ -93,9 +106,12 @@ pub fn store_response(alloc: Global, handle: &mut HistoryHandle, number: u64) ->
 #[inline(always)]
 #[tactic(auto, using(crate::proofs::Telling::is_taken, crate::proofs::Telling::is_not_taken))]
 fn tell(alloc: Global, handle: &mut HistoryHandle, event: HistoryEvent) -> u32
-    ensures { (b : Option Session)
+    ensures told { (b : Option Session)
         → IsBehind handle.old b
         → IsEventTold result handle.old handle.new b event.entry }
+    ensures coverage { (b : Option Session)
+        → IsBehind handle.old b
+        → IsEventCounted result handle.old handle.new b event.entry }
 {
     let Some(mut history) = handle.take(alloc) else {
         return CLOSED;

@@ -10,6 +10,7 @@
 
 mod asked;
 mod calls;
+mod counts;
 mod handle;
 mod history;
 mod open;
@@ -20,9 +21,10 @@ mod units;
 
 pub use asked::{may_return, unanswered};
 pub use calls::{load_request, load_response, store_request, store_response};
+pub use counts::{cover, coverage};
 pub use handle::HistoryHandle;
 pub use history::OpenHistory;
 pub use open::{free_history, open_history};
 pub use reasons::why;
-pub use rows::{OCTETS, Operation, ReasonRow};
+pub use rows::{HistoryCounts, OCTETS, Operation, ReasonRow};
 pub use units::{forget, undecided};

@@ -1,6 +1,7 @@
 //! Opening and freeing a history.
 ghost use Rattle.std.specs.Prelude.{◌≡◌, ◌≢◌, None, IfErr, OnOk, OnErr};
 ghost use Rattle.history_handles.specs.Behind.{behind};
+ghost use Rattle.history_handles.specs.Coverage.{coverage_behind};
 ghost use Rattle.history_handles.specs.Opening.{chosen, law_of, unit_of, of_bytes, rest_of, open_fault, open_number, fault_or_memory};
 ghost use Rattle.history_handles.specs.Opening.{IsTold, IsOpened, told_status};
 
@@ -49,6 +50,7 @@ pub fn open_history(
 ) -> u32
     ensures status { IsTold result (open_fault (behind handle.old) law unit rest) }
     ensures opened { result ≡ 0 → IsOpened (behind handle.new) (chosen law unit rest) image.now }
+    ensures uncovered { result ≡ 0 → coverage_behind handle.new ≡ None }
     ensures unchanged { result ≢ 0 → behind handle.new ≡ behind handle.old }
 {
     match open_into(alloc, handle, law, unit, rest, image) {
@@ -81,6 +83,7 @@ fn open_into(
 ) -> Result<(), OpenFault>
     ensures lawful { OnOk result (open_fault (behind handle.old) law unit rest ≡ None) }
     ensures opened { OnOk result (IsOpened (behind handle.new) (chosen law unit rest) image.now) }
+    ensures uncovered { OnOk result (coverage_behind handle.new ≡ None) }
     ensures fault { IfErr result (λ e. e ≡ fault_or_memory (open_fault (behind handle.old) law unit rest)) }
     ensures unchanged { OnErr result (behind handle.new ≡ behind handle.old) }
 {

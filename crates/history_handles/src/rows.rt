@@ -2,9 +2,10 @@
 ghost use Rattle.std.specs.Prelude.{◌≡◌, ◌+◌, ◌*◌, ◌≤◌, length};
 ghost use Rattle.memory_histories.specs.Sets.{has};
 ghost use Rattle.std.specs.Option.{option_map};
-ghost use Rattle.history_handles.specs.Rows.{row_of, weight_in, octet, IsOctets};
+ghost use Rattle.history_handles.specs.Rows.{row_of, counts_row, weight_in, octet, IsOctets};
 
 use history_reasons::OpenOperation;
+use history_sessions::Counts;
 use memory_histories::ByteSet;
 
 /// An open operation.
@@ -29,6 +30,31 @@ pub(crate) fn row_of(operation: Option<OpenOperation>) -> Option<Operation>
             length: open.length as u64,
         }),
         None => None,
+    }
+}
+
+/// What was counted of a history. A count stays at 2^64 - 1.
+#[repr(C)]
+#[derive(Clone, Copy, PartialEq, Eq, Debug)]
+pub struct HistoryCounts {
+    /// Answered loads.
+    pub loads: u64,
+    /// Those of which some byte might have been another.
+    pub choices: u64,
+    /// Those that were open at once with a store to one of their bytes.
+    pub beside_store: u64,
+    /// Operations answered before an older one with a byte in common.
+    pub overtaking: u64,
+}
+
+pub(crate) fn counts_row(counts: Counts) -> HistoryCounts
+    ensures { result ≡ counts_row counts }
+{
+    HistoryCounts {
+        loads: counts.loads,
+        choices: counts.choices,
+        beside_store: counts.beside_store,
+        overtaking: counts.overtaking,
     }
 }
 

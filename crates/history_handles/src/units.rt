@@ -2,6 +2,7 @@
 ghost use Rattle.std.specs.Prelude.{◌≡◌, None, Option};
 ghost use Rattle.history_sessions.specs.Session.{Session};
 ghost use Rattle.history_handles.specs.Behind.{behind, IsBehind};
+ghost use Rattle.history_handles.specs.Coverage.{coverage_behind};
 ghost use Rattle.history_handles.specs.Calls.{IsForgetStatus, forgotten_by, IsAddressTold};
 
 use crate::handle::HistoryHandle;
@@ -19,6 +20,7 @@ pub fn forget(alloc: Global, handle: &mut HistoryHandle, address: u64) -> u32
     ensures history { (b : Option Session)
         → IsBehind handle.old b
         → IsBehind handle.new (forgotten_by result b address) }
+    ensures coverage { coverage_behind handle.new ≡ coverage_behind handle.old }
 {
     let Some(mut history) = handle.take(alloc) else {
         return CLOSED;

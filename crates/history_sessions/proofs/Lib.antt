@@ -8,3 +8,5 @@ pub mod Plain
 -- what is seen of a history
 pub mod Within
 pub mod Timely
+-- what is counted of it
+pub mod Alone

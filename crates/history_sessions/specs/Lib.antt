@@ -8,5 +8,8 @@ pub mod Session
 pub mod Reasons
 -- what is kept of it
 pub mod Kept
+-- what is counted of it
+pub mod Coverage
+pub mod Choices
 -- for those above
 pub mod Words

@@ -9,12 +9,15 @@
 //! [`HistorySession::sources`] where an allowed one comes from.
 #![tactic(auto)]
 
+mod choices;
+mod coverage;
 mod faults;
 mod judge;
 mod session;
 mod steps;
 
 pub use atomic_histories::{DEFAULT_LIMIT, UnitSize};
+pub use coverage::Counts;
 pub use faults::{ForgetFault, JudgeFault};
 pub use history_reasons::{FoundReason, OpenOperation, Reason, Source};
 pub use judge::{HistoryLaw, Judge, LawName};

@@ -1,5 +1,6 @@
 //! A history, its open operations and its stores.
-ghost use Rattle.std.specs.Prelude.{◌≡◌, ◌<◌, true, None, IfOk, IfErr, OnOk, OnErr, length, slice_get};
+ghost use Rattle.std.specs.Prelude.{◌≡◌, ◌<◌, true, None, Some, IfOk, IfErr, OnOk, OnErr, length, slice_get};
+ghost use Rattle.std.specs.Option.{option_map};
 ghost use Rattle.memory_histories.specs.Windows.{Windows};
 ghost use Rattle.history_reasons.specs.Log.{HasRoom};
 ghost use Rattle.history_reasons.specs.Open.{operation_under};
@@ -8,8 +9,11 @@ ghost use Rattle.history_sessions.specs.History.{Passes, has_units};
 ghost use Rattle.history_sessions.specs.Session.{Session, session_opening, session_after, session_passing, session_refusing};
 ghost use Rattle.history_sessions.specs.Session.{session_forgetting};
 ghost use Rattle.history_sessions.specs.Kept.{JudgeFaultIs, IsFound, IsSetFound, IsAllowed, ForgetFaultIs, IsKept};
+ghost use Rattle.history_sessions.specs.Choices.{coverage_of, IsChoiceIfCounted, IsCounted, counted_if, HasRoomToCount};
+ghost use Rattle.history_sessions.specs.Coverage.{nothing_covered, shown};
 ghost use Rattle.history_sessions.specs.Reasons.{unit_bytes, is_atomic, is_flat, reason_for, sources_for, is_together};
 
+use crate::coverage::{Counts, Coverage};
 use crate::faults::{ForgetFault, JudgeFault};
 use crate::judge::{HistoryLaw, Judge};
 use history_reasons::{FoundReason, OpenOperation, Source, StoreLog};
@@ -24,6 +28,7 @@ pub struct HistorySession {
     pub(crate) undecided: Option<u64>,
     /// Stores as they were seen, and open operations.
     pub(crate) log: StoreLog,
+    pub(crate) coverage: Option<Coverage>,
 }
 
 impl HistorySession {
@@ -35,7 +40,8 @@ impl HistorySession {
         image: &[u8],
         rest: Rest,
     ) -> Result<HistorySession, AllocError>
-        ensures { IfOk result (λ m. IsKept m (session_opening law image.now rest)) }
+        ensures kept { IfOk result (λ m. IsKept m (session_opening law image.now rest)) }
+        ensures uncovered { IfOk result (λ m. coverage_of m ≡ None) }
     {
         let judge = Judge::new(alloc, law, image, rest)?;
         let log = StoreLog::new(alloc, image, rest)?;
@@ -44,6 +50,7 @@ impl HistorySession {
             judge,
             undecided: None,
             log,
+            coverage: None,
         })
     }
 
@@ -59,6 +66,10 @@ impl HistorySession {
         ensures left { (s : Session)
             → IsKept self.old s
             → IfErr result (λ fault. IsKept self.new (session_refusing s fault)) }
+        ensures counted { (s : Session)
+            → IsKept self.old s
+            → OnOk result (IsCounted self.old.judge s.history event.entry (coverage_of self.old) (coverage_of self.new)) }
+        ensures uncounted { OnErr result (coverage_of self.new ≡ coverage_of self.old) }
     {
         match self.taken(event) {
             Ok(()) => Ok(()),
@@ -78,12 +89,18 @@ impl HistorySession {
             → IsKept self.old s
             → IfErr result (JudgeFaultIs self.old.judge s.history (plain event.entry)) }
         ensures unchanged { (s : Session) → IsKept self.old s → OnErr result (IsKept self.new s) }
+        ensures counted { (s : Session)
+            → IsKept self.old s
+            → OnOk result (IsCounted self.old.judge s.history event.entry (coverage_of self.old) (coverage_of self.new)) }
+        ensures uncounted { OnErr result (coverage_of self.new ≡ coverage_of self.old) }
     {
         if self.make_room().is_err() {
             return Err(self.fault_without_room(event));
         }
+        let had_choice = self.is_choice(event);
         self.judge.step(event)?;
         self.log.note(event);
+        count(&mut self.coverage, event, had_choice);
         self.undecided = None;
         Ok(())
     }
@@ -92,15 +109,51 @@ impl HistorySession {
         ensures same { (s : Session) → IsKept self.old s → IsKept self.new s }
         ensures judge { self.new.judge ≡ self.old.judge }
         ensures log { OnOk result (HasRoom self.new.log) }
+        ensures counts { coverage_of self.new ≡ coverage_of self.old }
+        ensures coverage { OnOk result (HasRoomToCount self.new.coverage) }
     {
-        self.log.make_room()
+        self.log.make_room()?;
+        make_room_to_count(&mut self.coverage)
+    }
+
+    #[inline(always)]
+    fn is_choice(&self, event: HistoryEvent) -> bool
+        ensures { (s : Session)
+            → IsKept self.now s
+            → IsChoiceIfCounted self.now.judge s.history (coverage_of self.now) event.entry result }
+    {
+        match &self.coverage {
+            Some(coverage) => self.judge.is_choice(coverage, event),
+            None => false,
+        }
+    }
+
+    /// Counts each answer of what is requested from here on ([`coverage`](Self::coverage)); if it
+    /// counted already, anew. A load's answer then takes longer, by the atomic law by a search for
+    /// each byte.
+    pub fn cover(&mut self, alloc: Global)
+        ensures same { (s : Session) → IsKept self.old s → IsKept self.new s }
+        ensures counts { coverage_of self.new ≡ Some nothing_covered }
+    {
+        self.coverage = Some(Coverage::new(alloc));
+    }
+
+    /// What was counted. `None`: nothing is.
+    pub fn coverage(&self) -> Option<Counts>
+        ensures { result ≡ option_map (λ c. c.counts) (coverage_of self.now) }
+    {
+        match &self.coverage {
+            Some(coverage) => Some(coverage.counts()),
+            None => None,
+        }
     }
 
     /// Counts a moment without an event.
     pub fn pass(&mut self)
-        ensures { (s : Session)
+        ensures kept { (s : Session)
             → IsKept self.old s
             → IsKept self.new (session_passing s) }
+        ensures counts { coverage_of self.new ≡ coverage_of self.old }
     {
         self.log.pass();
     }
@@ -203,9 +256,10 @@ impl HistorySession {
     }
 
     fn note(&mut self, fault: JudgeFault)
-        ensures { (s : Session)
+        ensures left { (s : Session)
             → IsKept self.old s
             → IsKept self.new (session_refusing s fault) }
+        ensures counts { coverage_of self.new ≡ coverage_of self.old }
     {
         if let JudgeFault::Undecided { address } = fault {
             self.undecided = Some(address);
@@ -247,10 +301,33 @@ impl HistorySession {
             → OnOk result ((has_units s.history ≡ true) × IsKept self.new (session_forgetting address s)) }
         ensures fault { (s : Session) → IsKept self.old s → IfErr result (ForgetFaultIs s.history) }
         ensures unchanged { (s : Session) → IsKept self.old s → OnErr result (IsKept self.new s) }
+        ensures counts { coverage_of self.new ≡ coverage_of self.old }
     {
         self.judge.forget(address)?;
         self.undecided = None;
         Ok(())
+    }
+}
+
+#[inline(always)]
+fn make_room_to_count(coverage: &mut Option<Coverage>) -> Result<(), AllocError>
+    ensures same { option_map shown coverage.new ≡ option_map shown coverage.old }
+    ensures room { OnOk result (HasRoomToCount coverage.new) }
+{
+    match coverage {
+        Some(coverage) => coverage.make_room(),
+        None => Ok(()),
+    }
+}
+
+// An event was taken.
+#[inline(always)]
+fn count(coverage: &mut Option<Coverage>, event: HistoryEvent, had_choice: bool)
+    requires room { HasRoomToCount coverage.old }
+    ensures { option_map shown coverage.new ≡ counted_if had_choice event.entry (option_map shown coverage.old) }
+{
+    if let Some(coverage) = coverage {
+        coverage.note(event, had_choice);
     }
 }
 

@@ -6,8 +6,9 @@ ghost use Rattle.history_handles.specs.Opening.{chosen, open_fault, IsTold, IsOp
 ghost use Rattle.history_handles.specs.Why.{IsWhyTold};
 ghost use Rattle.history_handles.specs.Calls.{IsEventTold, IsSetTold, IsForgetStatus, forgotten_by, IsAddressTold, IsCounted};
 ghost use Rattle.history_handles.specs.Calls.{IsOperationTold, operation_asked};
+ghost use Rattle.history_handles.specs.Coverage.{IsEventCounted, coverage_behind, told_begun, begun_in, AreCountsTold};
 
-use history_handles::{HistoryHandle, OCTETS, Operation, ReasonRow};
+use history_handles::{HistoryCounts, HistoryHandle, OCTETS, Operation, ReasonRow};
 use std::alloc::Global;
 
 /// Opens a history without an event behind a closed handle, to be judged by a law over units of so many bytes.
@@ -22,6 +23,7 @@ pub extern "C" fn kroft_history_open(
 ) -> u32
     ensures status { IsTold result (open_fault (behind handle.old) law unit rest) }
     ensures opened { result ≡ 0 → IsOpened (behind handle.new) (chosen law unit rest) image.now }
+    ensures uncovered { result ≡ 0 → coverage_behind handle.new ≡ None }
     ensures unchanged { result ≢ 0 → behind handle.new ≡ behind handle.old }
 {
     history_handles::open_history(alloc, handle, law, unit, rest, image)
@@ -45,9 +47,12 @@ pub extern "C" fn kroft_history_load_request(
     address: u64,
     length: usize,
 ) -> u32
-    ensures { (b : Option Session)
+    ensures told { (b : Option Session)
         → IsBehind handle.old b
         → IsEventTold result handle.old handle.new b (LoadRequest number address length) }
+    ensures coverage { (b : Option Session)
+        → IsBehind handle.old b
+        → IsEventCounted result handle.old handle.new b (LoadRequest number address length) }
 {
     history_handles::load_request(alloc, handle, number, address, length)
 }
@@ -60,9 +65,12 @@ pub extern "C" fn kroft_history_load_response(
     number: u64,
     bytes: &[u8],
 ) -> u32
-    ensures { (b : Option Session)
+    ensures told { (b : Option Session)
         → IsBehind handle.old b
         → IsEventTold result handle.old handle.new b (LoadResponse number bytes.entry) }
+    ensures coverage { (b : Option Session)
+        → IsBehind handle.old b
+        → IsEventCounted result handle.old handle.new b (LoadResponse number bytes.entry) }
 {
     history_handles::load_response(alloc, handle, number, bytes)
 }
@@ -77,9 +85,12 @@ pub extern "C" fn kroft_history_store_request(
     bytes: &[u8],
     enables: u64,
 ) -> u32
-    ensures { (b : Option Session)
+    ensures told { (b : Option Session)
         → IsBehind handle.old b
         → IsEventTold result handle.old handle.new b (StoreRequest number address bytes.entry enables) }
+    ensures coverage { (b : Option Session)
+        → IsBehind handle.old b
+        → IsEventCounted result handle.old handle.new b (StoreRequest number address bytes.entry enables) }
 {
     history_handles::store_request(alloc, handle, number, address, bytes, enables)
 }
@@ -91,9 +102,12 @@ pub extern "C" fn kroft_history_store_response(
     handle: &mut HistoryHandle,
     number: u64,
 ) -> u32
-    ensures { (b : Option Session)
+    ensures told { (b : Option Session)
         → IsBehind handle.old b
         → IsEventTold result handle.old handle.new b (StoreResponse number) }
+    ensures coverage { (b : Option Session)
+        → IsBehind handle.old b
+        → IsEventCounted result handle.old handle.new b (StoreResponse number) }
 {
     history_handles::store_response(alloc, handle, number)
 }
@@ -143,6 +157,7 @@ pub extern "C" fn kroft_history_forget(
     ensures history { (b : Option Session)
         → IsBehind handle.old b
         → IsBehind handle.new (forgotten_by result b address) }
+    ensures coverage { coverage_behind handle.new ≡ coverage_behind handle.old }
 {
     history_handles::forget(alloc, handle, address)
 }
@@ -181,4 +196,27 @@ pub extern "C" fn kroft_history_unanswered(
     ensures same { behind handle.new ≡ behind handle.old }
 {
     history_handles::unanswered(alloc, handle, kind, n, operation, count)
+}
+
+/// Counts each answer of what is requested from here on.
+#[unsafe(no_mangle)]
+pub extern "C" fn kroft_history_cover(alloc: Global, handle: &mut HistoryHandle) -> u32
+    ensures status { result ≡ told_begun (behind handle.old) }
+    ensures history { (b : Option Session) → IsBehind handle.old b → IsBehind handle.new b }
+    ensures coverage { coverage_behind handle.new ≡ begun_in (behind handle.old) }
+{
+    history_handles::cover(alloc, handle)
+}
+
+/// What was counted since then.
+#[unsafe(no_mangle)]
+pub extern "C" fn kroft_history_coverage(
+    alloc: Global,
+    handle: &mut HistoryHandle,
+    counts: &mut HistoryCounts,
+) -> u32
+    ensures counts { AreCountsTold result counts.old counts.new (behind handle.old) }
+    ensures same { behind handle.new ≡ behind handle.old }
+{
+    history_handles::coverage(alloc, handle, counts)
 }

@@ -20,10 +20,10 @@ mod version;
 mod views;
 
 pub use history::{
-    kroft_history_close, kroft_history_forget, kroft_history_load_request,
-    kroft_history_load_response, kroft_history_may_return, kroft_history_open,
-    kroft_history_store_request, kroft_history_store_response, kroft_history_unanswered,
-    kroft_history_undecided, kroft_history_why,
+    kroft_history_close, kroft_history_cover, kroft_history_coverage, kroft_history_forget,
+    kroft_history_load_request, kroft_history_load_response, kroft_history_may_return,
+    kroft_history_open, kroft_history_store_request, kroft_history_store_response,
+    kroft_history_unanswered, kroft_history_undecided, kroft_history_why,
 };
 pub use judge::{kroft_flat_judge, kroft_flat_unanswered};
 pub use machine::{

@@ -7,10 +7,10 @@ pub write_from-requires : goal.write_from-requires
 write_from-requires g c =
     let start = session_opening c.args.law c.args.image.now c.args.rest in
     let timely = timely_at_first c.args.law c.args.image.now c.args.rest in
-    (start, c.new-judging.ensures start c.in_ok-session.ensures timely refl)
+    (start, c.new-judging.ensures start c.in_ok-session.ensures.kept timely refl)
 
 pub returns : goal.returns
 returns g c =
     let start = session_opening c.args.law c.args.image.now c.args.rest in
     let timely = timely_at_first c.args.law c.args.image.now c.args.rest in
-    c.write_from.ensures start (c.new-judging.ensures start c.in_ok-session.ensures timely refl)
+    c.write_from.ensures start (c.new-judging.ensures start c.in_ok-session.ensures.kept timely refl)

@@ -1,8 +1,8 @@
 use Rattle.std.proofs.Common.{refl}
 use Rattle.history_sessions.proofs.session.HistorySession.new.Goals as goal
 
-pub returns : goal.returns
-returns c =
+pub returns-clause-kept : goal.returns-clause-kept
+returns-clause-kept c =
     let none = c.in_ok-log.ensures.none_open refl in
     record {
       law = refl;

@@ -1,8 +1,8 @@
 use Rattle.std.proofs.Common.{◌∙◌, arith}
 use Rattle.history_sessions.proofs.session.HistorySession.pass.Goals as goal
 
-pub returns : goal.returns
-returns c s k = record {
+pub returns-clause-kept : goal.returns-clause-kept
+returns-clause-kept c s k = record {
   law = k.law;
   judge = k.judge;
   loads = c.pass.ensures.open.loads ∙ k.loads;

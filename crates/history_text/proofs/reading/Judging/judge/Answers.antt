@@ -9,7 +9,7 @@ use Rattle.history_text.proofs.reading.Judging.judge.Goals as goal
 pub returns-in-None-clause-ok : goal.returns-in-None-clause-ok
 returns-in-None-clause-ok c start texts text said h =
     let none = said ∙ ap (λ (o : Option OwnedEvent). Ok (seen_by o)) c.in-None.is in
-    judged_passed c.args.self.now _ text h c.requires none (c.pass.ensures _ h.kept) refl
+    judged_passed c.args.self.now _ text h c.requires none (c.pass.ensures.kept _ h.kept) refl
 
 pub returns-in-Ok-clause-ok : goal.returns-in-Ok-clause-ok
 returns-in-Ok-clause-ok c start texts text said h =
