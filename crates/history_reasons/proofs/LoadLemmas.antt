@@ -36,12 +36,15 @@ pub byte_found : (number address : ℕ) (loads : List OpenLoad)
     → option_map (byte_at address) (find (asks_for number address) loads) ≡ find (is_at number address) (all_bytes_of loads)
 byte_found number address [] = refl
 byte_found number address (l ∷ ls) =
-    grind (arith, find-append, of_load number l.number l.address l.enables l.began address l.address l.length, cases_Bool, byte_found number address ls)
+    let its = of_load number l.number l.address l.enables l.began address l.address l.length in
+    grind (arith, find-append, its, cases_Bool, byte_found number address ls)
 
 kept : (number : ℕ) (loads : List OpenLoad)
     → all_bytes_of (without_load number loads) ≡ filter (λ l. not (is_of number l)) (all_bytes_of loads)
 kept number [] = refl
-kept number (l ∷ ls) = grind (arith, filter-append, one_kept number l.number l.address l.enables l.began l.address l.length, cases_Bool, kept number ls)
+kept number (l ∷ ls) =
+    let its = one_kept number l.number l.address l.enables l.began l.address l.length in
+    grind (arith, filter-append, its, cases_Bool, kept number ls)
 
 -- the bytes of the loads are noted with the loads
 pub bytes_noted : (loads : List OpenLoad) (moment : ℕ) (event : HistoryEvent)

@@ -1,7 +1,8 @@
 -- The open loads, and the bytes that they stand for.
 use Rattle.std.proofs.Common.{◌≡◌, ℕ, zero, suc, ◌+◌, ◌-◌, ◌<◌, ◌≤◌, Bool, true, false, ◌&&◌, not, if◌then◌else◌, ◌==◌, nat_le, nat_lt, min}
 use Rattle.std.proofs.Common.{List, [], ◌∷◌, ◌++◌, map, drop, length, length-append, length-drop, append_assoc, append-nil, add-one}
-use Rattle.std.proofs.Common.{drop-cons, drop-set-lt, take, set, get_or, Option, None, Some, slice_get, inl, inr, refl, sym, ap, arith, ◌/◌, ◌∙◌}
+use Rattle.std.proofs.Common.{drop-cons, drop-set-lt, take, set, get_or, Option, None, Some, slice_get, inl, inr, refl, sym, ap, arith}
+use Rattle.std.proofs.Common.{◌/◌, ◌∙◌}
 use Rattle.std.specs.List.{position, filter, find, fold, list_any, zip, position_from, range_with_len}
 use Rattle.std.specs.Int.{bit_at}
 use Rattle.std.proofs.lemmas.List.{drop_all, drop_min, map-append, take_more_set}
@@ -11,7 +12,7 @@ use Rattle.std.specs.Option.{option_map}
 use Rattle.std.specs.Prelude.{IfSome}
 use Rattle.std.proofs.lemmas.List.Quantifiers.{position-Some}
 use Rattle.std.proofs.lemmas.List.Elements.{filter-append}
-use Rattle.std.proofs.lemmas.List.Folds.{list_any-append, find-append}
+use Rattle.std.proofs.lemmas.List.Folds.{list_any-append}
 use Rattle.std.proofs.lemmas.Slice.Zip.{length-zip}
 use Rattle.memory_histories.specs.declared.loads.OpenLoad.{OpenLoad}
 use Rattle.memory_histories.specs.declared.kept.OpenByte.{OpenByte}
@@ -23,7 +24,8 @@ use Rattle.memory_histories.specs.Windows.{load_byte}
 use Rattle.memory_histories.specs.Regular.{wrong_place}
 use Rattle.memory_histories.specs.Kept.{after_stores, is_open_of, is_open_at, may_have, enabled_set, shown_set}
 use Rattle.memory_histories.specs.Parts.{part_bytes}
-use Rattle.memory_histories.specs.Loads.{set_bytes, load_open, loads_open, is_load_of, counted, shown_sets, is_near, or_next, first_set_at, wrong_in}
+use Rattle.memory_histories.specs.Loads.{set_bytes, load_open, loads_open, is_load_of, counted, shown_sets, is_near, or_next}
+use Rattle.memory_histories.specs.Loads.{first_set_at, wrong_in}
 use Rattle.memory_histories.specs.Loads.{behind}
 use Rattle.memory_histories.proofs.Lists.{filter-made}
 use Rattle.memory_histories.proofs.Pieces.{with_part, elsewhere}

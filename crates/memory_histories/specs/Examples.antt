@@ -63,7 +63,8 @@ one_byte_stored = two_stores ++ StoreRequest 3 4096 (bytes (51 ∷ 51 ∷ [])) 1
 pub a_neighbour_stays : Passes (one_byte_stored ++ load 1 2 (51 ∷ 17 ∷ []) ++ load 1 2 (51 ∷ 34 ∷ []))
 a_neighbour_stays = refl
 
-pub a_byte_is_settled : Stops (one_byte_stored ++ LoadRequest 1 4096 2 ALL_ENABLED ∷ []) (LoadResponse 1 (bytes (17 ∷ 17 ∷ []))) (WrongByte 0)
+pub a_byte_is_settled : Stops (one_byte_stored ++ LoadRequest 1 4096 2 ALL_ENABLED ∷ []) (LoadResponse 1 (bytes (17 ∷ 17
+    ∷ []))) (WrongByte 0)
 a_byte_is_settled = refl
 
 -- a torn word: each byte is one that was stored, so the regular law lets it through

@@ -1,6 +1,7 @@
 -- What the judge keeps of a history: the bytes of the open stores, those of answered stores that a load may still see, and of
 -- each byte of an open load what it may return if it is answered now.
-use Rattle.std.specs.Prelude.{ℕ, ◌≡◌, ◌+◌, ◌/◌, ◌<◌, Bool, true, false, ◌&&◌, ◌||◌, not, if◌then◌else◌, ◌==◌, List, [], ◌++◌, map, Option, Some, None, is_none}
+use Rattle.std.specs.Prelude.{ℕ, ◌≡◌, ◌+◌, ◌/◌, ◌<◌, Bool, true, false, ◌&&◌, ◌||◌, not, if◌then◌else◌, ◌==◌, List, [], ◌++◌, map}
+use Rattle.std.specs.Prelude.{Option, Some, None, is_none}
 use Rattle.std.specs.Prelude.{is_some, slice_get, length}
 use Rattle.std.specs.List.{All, filter, list_any, fold}
 use Rattle.memory_histories.specs.declared.events.HistoryEvent.{HistoryEvent}
