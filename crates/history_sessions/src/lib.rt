@@ -18,5 +18,7 @@ pub use atomic_histories::{DEFAULT_LIMIT, UnitSize};
 pub use faults::{ForgetFault, JudgeFault};
 pub use history_reasons::{FoundReason, OpenOperation, Reason, Source};
 pub use judge::{HistoryLaw, Judge, LawName};
-pub use memory_histories::{ByteSet, HistoryEvent, HistoryFault, MAX_LENGTH, Rest, StoreByte};
+pub use memory_histories::{
+    ALL_ENABLED, ByteSet, HistoryEvent, HistoryFault, MAX_LENGTH, Rest, StoreByte,
+};
 pub use session::HistorySession;
