@@ -628,8 +628,8 @@ uint32_t kroft_history_load_request(kroft_history *handle, uint64_t number, uint
    KROFT_FAIL_WRONG_BYTE; KROFT_FAIL_UNDECIDED. */
 uint32_t kroft_history_load_response(kroft_history *handle, uint64_t number, const uint8_t *bytes, size_t nbytes);
 
-/* A store is requested: of these bytes from `address` on, those whose enable is set, as a load's. KROFT_FAIL_BAD_RANGE; KROFT_FAIL_NO_BYTE_ENABLED;
-   KROFT_FAIL_NUMBER_IN_USE. */
+/* A store is requested: of these bytes from `address` on, those whose enable is set, as a load's. KROFT_FAIL_BAD_RANGE;
+   KROFT_FAIL_NO_BYTE_ENABLED; KROFT_FAIL_NUMBER_IN_USE. */
 uint32_t kroft_history_store_request(kroft_history *handle, uint64_t number, uint64_t address, const uint8_t *bytes,
                                      size_t nbytes, uint64_t enables);
 

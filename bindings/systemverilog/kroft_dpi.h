@@ -71,8 +71,8 @@ void kroft_sv_history_close(void *history);
    there are more, or X or Z in one of them, or a request was told, or by the atomic law a unit was forgotten. */
 int kroft_sv_image(void *history, const kroft_four_states *data, int size);
 
-/* A load, or a store, of the bytes that are enabled is requested: what is answered of a load's other bytes isn't judged. `now` is the moment, as the caller counts it: it is
-   said of what is wrong later, unless it is 0. */
+/* A load, or a store, of the bytes that are enabled is requested. What is answered of a load's other bytes isn't judged, X
+   and Z too. `now` is the moment, as the caller counts it: it is said of what is wrong later, unless it is 0. */
 int kroft_sv_load_request(void *history, unsigned long long id, unsigned long long address, int size,
                           unsigned long long enables, unsigned long long now);
 int kroft_sv_store_request(void *history, unsigned long long id, unsigned long long address, int size, const kroft_four_states *data,
