@@ -245,12 +245,12 @@ module _ (lost : List ℕ) (image : List ℕ) (rest : Rest) (size : ℕ) (histor
   load_gets k j b answer e l t h at =
       let got_one = got_some (unit k) l.address answer l.got (rw t at h) in
       let here : is_as_it_stood (lane_of j got_one.0) (read_byte l.address answer (k * size + j)) ≡ true =
-      word_lane (k * size) got_one.0 l.address answer j got_one.1.1 in
+      word_lane (k * size) got_one.0 l.address answer j got_one.2 in
       let read : is_as_it_stood (lane_of j got_one.0) (read_byte (reads o) answer (k * size + j)) ≡ true =
       subst (λ a. is_as_it_stood (lane_of j got_one.0) (read_byte a answer (k * size + j)) ≡ true) at here in
       let stood : is_as_it_stood (lane_of j got_one.0) (Some b) ≡ true =
       subst (λ x. is_as_it_stood (lane_of j got_one.0) x ≡ true) e read in
-      and_from _ _ t (subst (λ y. has_got j b y ≡ true) (sym got_one.1.0) (shows_stood _ b stood))
+      and_from _ _ t (subst (λ y. has_got j b y ≡ true) (sym got_one.1) (shows_stood _ b stood))
 
   gets_at : (k j b : ℕ) (answer : Bor (List ℕ)) → read_byte (reads o) answer.now (k * size + j) ≡ Some b → is_of (unit k) o ≡ true
       → IsAtomicAt image rest (unit k) (more answer) → MayGet image rest history (unit k) number j b
