@@ -83,7 +83,7 @@ extern "C" {
     row(FAIL_NO_ANSWER, 148, "no answer: its row says nothing")                                     \
     /* events of a history */                                                                       \
     row(FAIL_BAD_RANGE, 151, "bad range: not 1 to 64 bytes, or not below 2^64")                     \
-    row(FAIL_NO_BYTE_ENABLED, 152, "no byte enabled: a store that writes no byte")                  \
+    row(FAIL_NO_BYTE_ENABLED, 152, "no byte enabled: a load or a store of no byte")                  \
     row(FAIL_NUMBER_IN_USE, 153, "number in use: an operation is open under it")                    \
     row(FAIL_NOT_OPEN, 154, "not open: no operation is open under the number")                      \
     row(FAIL_WRONG_LENGTH, 155, "wrong length: the load asks for another")                          \
@@ -619,16 +619,17 @@ uint32_t kroft_history_close(kroft_history *handle);
  * (kroft_history_forget) the response may be given again.
  */
 
-/* A load of `length` bytes from `address` on is requested. KROFT_FAIL_BAD_RANGE; KROFT_FAIL_NUMBER_IN_USE. */
-uint32_t kroft_history_load_request(kroft_history *handle, uint64_t number, uint64_t address, size_t length);
+/* A load is requested: of `length` bytes from `address` on, those whose enable is set. Bit k of `enables` is the enable of
+   byte k; bits beyond the last byte have no meaning. The answer has `length` bytes, and those that aren't enabled aren't
+   judged. KROFT_FAIL_BAD_RANGE; KROFT_FAIL_NO_BYTE_ENABLED; KROFT_FAIL_NUMBER_IN_USE. */
+uint32_t kroft_history_load_request(kroft_history *handle, uint64_t number, uint64_t address, size_t length, uint64_t enables);
 
 /* The load that is open under the number is answered with these bytes. KROFT_FAIL_NOT_OPEN; KROFT_FAIL_WRONG_LENGTH;
    KROFT_FAIL_WRONG_BYTE; KROFT_FAIL_UNDECIDED. */
 uint32_t kroft_history_load_response(kroft_history *handle, uint64_t number, const uint8_t *bytes, size_t nbytes);
 
-/* A store is requested: of these bytes from `address` on, those whose enable is set. Bit k of `enables` is the enable of
-   byte k; bits beyond the last byte have no meaning. KROFT_FAIL_BAD_RANGE; KROFT_FAIL_NO_BYTE_ENABLED;
-   KROFT_FAIL_NUMBER_IN_USE. */
+/* A store is requested: of these bytes from `address` on, those whose enable is set, as a load's. KROFT_FAIL_BAD_RANGE;
+   KROFT_FAIL_NO_BYTE_ENABLED; KROFT_FAIL_NUMBER_IN_USE. */
 uint32_t kroft_history_store_request(kroft_history *handle, uint64_t number, uint64_t address, const uint8_t *bytes,
                                      size_t nbytes, uint64_t enables);
 

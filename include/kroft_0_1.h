@@ -257,7 +257,7 @@ typedef struct {
 
 static inline uint32_t kroft_history_free(kroft_history *handle) { return kroft_0_1_done(kroft_history_close(handle)); }
 static inline uint32_t kroft_load_request(kroft_history *handle, uint64_t number, uint64_t address, size_t length) {
-    return kroft_0_1_done(kroft_history_load_request(handle, number, address, length));
+    return kroft_0_1_done(kroft_history_load_request(handle, number, address, length, ~(uint64_t)0));
 }
 static inline uint32_t kroft_load_response(kroft_history *handle, uint64_t number, const uint8_t *bytes,
                                            size_t nbytes) {

@@ -88,7 +88,7 @@ static uint32_t tell(kroft_history *history, const event *e) {
                             : kroft_history_store_request(history, e->number, e->unit * BYTES, e->bytes, BYTES, e->enables);
     }
     return e->is_answer ? kroft_history_load_response(history, e->number, e->bytes, BYTES)
-                        : kroft_history_load_request(history, e->number, e->unit * BYTES, BYTES);
+                        : kroft_history_load_request(history, e->number, e->unit * BYTES, BYTES, UINT64_MAX);
 }
 
 static double now(void) {

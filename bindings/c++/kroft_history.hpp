@@ -70,8 +70,9 @@ public:
         return judged_by;
     }
 
-    [[nodiscard]] HistoryVerdict load_request(uint64_t number, uint64_t address, size_t length) {
-        return told(kroft_history_load_request(&handle, number, address, length));
+    /// What is answered of a byte whose enable isn't set isn't judged: bit k of `enables` is the one of byte k.
+    [[nodiscard]] HistoryVerdict load_request(uint64_t number, uint64_t address, size_t length, uint64_t enables = ~uint64_t{0}) {
+        return told(kroft_history_load_request(&handle, number, address, length, enables));
     }
 
     [[nodiscard]] HistoryVerdict load_response(uint64_t number, const uint8_t *bytes, size_t length) {

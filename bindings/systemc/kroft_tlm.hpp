@@ -49,8 +49,6 @@ public:
     virtual Fault failed_store(uint64_t id) = 0;
     virtual std::vector<Access> unanswered() const = 0;
     virtual std::optional<kroft_history_counts> coverage() const { return std::nullopt; }
-    /// Whether a load asks for all of its bytes, so that one with byte enables has to be several.
-    virtual bool loads_whole() const = 0;
 };
 
 /// By flat memory: a part takes effect at its request.
@@ -68,7 +66,6 @@ public:
     Fault failed_load(uint64_t id) override { return fault(judge.failed_load(id)); }
     Fault failed_store(uint64_t id) override { return fault(judge.failed_store(id)); }
     std::vector<Access> unanswered() const override { return judge.unanswered(); }
-    bool loads_whole() const override { return false; }
 
 private:
     FlatJudge judge;
@@ -85,9 +82,9 @@ class HistoryParts : public PartJudge {
 public:
     explicit HistoryParts(History judge) : history(std::move(judge)) {}
 
-    Fault load(uint64_t id, uint64_t address, unsigned size, uint64_t) override {
-        open.emplace(id, Open{{Kind::Load, id, address, size, ALL_BYTES, ++calls}, sc_core::sc_time_stamp()});
-        return refused(id, history.load_request(id, address, size));
+    Fault load(uint64_t id, uint64_t address, unsigned size, uint64_t enables) override {
+        open.emplace(id, Open{{Kind::Load, id, address, size, enables, ++calls}, sc_core::sc_time_stamp()});
+        return refused(id, history.load_request(id, address, size, enables));
     }
 
     Fault store(uint64_t id, uint64_t address, unsigned size, const uint8_t *data, uint64_t enables) override {
@@ -130,8 +127,6 @@ public:
     }
 
     std::optional<kroft_history_counts> coverage() const override { return history.coverage(); }
-
-    bool loads_whole() const override { return true; }
 
 private:
     struct Open {
@@ -245,7 +240,7 @@ public:
         : range(addresses), judge(std::make_unique<FlatParts>(addresses, std::move(first_bytes))) {}
 
     /// By a history without an event, and by its law: nobody has to know when a transaction takes effect. One of more
-    /// than MAX_SIZE bytes is several operations, and so is a read with bytes that aren't enabled.
+    /// than MAX_SIZE bytes is several operations.
     explicit Watch(History history, Range addresses = {}) : range(addresses), judge(std::make_unique<HistoryParts>(std::move(history))) {}
 
     /// What was wrong so far.
@@ -370,17 +365,7 @@ private:
 
     void begin_part(const Payload &payload, Request &request, unsigned offset, unsigned size, uint64_t address) {
         uint64_t enables = enables_of(payload, offset, size);
-        if (request.is_read && watch.judge->loads_whole()) {
-            for (unsigned i = 0, length; i < size; i += length + 1) {
-                for (length = 0; i + length < size && enables >> (i + length) & 1;) length++;
-                if (length > 0) begin_operation(payload, request, offset + i, length, address + i, ALL_BYTES);
-            }
-        } else if (enables != 0) {
-            begin_operation(payload, request, offset, size, address, enables);
-        }
-    }
-
-    void begin_operation(const Payload &payload, Request &request, unsigned offset, unsigned size, uint64_t address, uint64_t enables) {
+        if (enables == 0) return;
         uint64_t id = watch.next_id++;
         const uint8_t *data = payload.get_data_ptr() + offset;
         auto fault = request.is_read ? watch.judge->load(id, address, size, enables) : watch.judge->store(id, address, size, data, enables);

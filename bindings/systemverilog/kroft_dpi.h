@@ -20,7 +20,7 @@ enum {
     KROFT_SV_RIGHT = 0,
     KROFT_SV_BAD_SIZE = 1,      /* a request of no bytes, or of more than 64                            */
     KROFT_SV_OUTSIDE = 2,       /* a request with bytes outside of memory                               */
-    KROFT_SV_NO_BYTES = 3,      /* a store that enables no byte                                         */
+    KROFT_SV_NO_BYTES = 3,      /* a store, or a load of a history, that enables no byte                */
     KROFT_SV_ID_IN_USE = 4,     /* a request under an id that waits for its answer                      */
     KROFT_SV_NOTHING_OWED = 5,  /* an answer to an id that waits for none of its kind                   */
     KROFT_SV_WRONG_DATA = 6,    /* a value that isn't the one that is owed                              */
@@ -71,9 +71,10 @@ void kroft_sv_history_close(void *history);
    there are more, or X or Z in one of them, or a request was told, or by the atomic law a unit was forgotten. */
 int kroft_sv_image(void *history, const kroft_four_states *data, int size);
 
-/* A load, or a store of the bytes that are enabled, is requested. `now` is the moment, as the caller counts it: it is
-   said of what is wrong later, unless it is 0. */
-int kroft_sv_load_request(void *history, unsigned long long id, unsigned long long address, int size, unsigned long long now);
+/* A load, or a store, of the bytes that are enabled is requested. What is answered of a load's other bytes isn't judged, X
+   and Z too. `now` is the moment, as the caller counts it: it is said of what is wrong later, unless it is 0. */
+int kroft_sv_load_request(void *history, unsigned long long id, unsigned long long address, int size,
+                          unsigned long long enables, unsigned long long now);
 int kroft_sv_store_request(void *history, unsigned long long id, unsigned long long address, int size, const kroft_four_states *data,
                            unsigned long long enables, unsigned long long now);
 

@@ -144,13 +144,15 @@ static void end_operation(history_state *h, operation *o) {
     free(o);
 }
 
-int kroft_sv_load_request(void *history, unsigned long long id, unsigned long long address, int size, unsigned long long now) {
+int kroft_sv_load_request(void *history, unsigned long long id, unsigned long long address, int size,
+                          unsigned long long enables, unsigned long long now) {
     history_state *h = (history_state *)history;
-    access a = request(0, id, address, size, ~UINT64_C(0));
-    int reason = fault_of(&a, 0, ~UINT64_C(0), &h->loads);
+    access a = request(0, id, address, size, enables);
+    int reason = fault_of(&a, 0, ~UINT64_C(0), NULL);
+    if (reason == KROFT_SV_RIGHT) reason = a.enables ? fault_of(&a, 0, ~UINT64_C(0), &h->loads) : KROFT_SV_NO_BYTES;
     if (reason != KROFT_SV_RIGHT) return say(h->text, &a, reason);
     open_history(h);
-    reason = told(h, kroft_history_load_request(&h->history, h->new_load, address, (size_t)size));
+    reason = told(h, kroft_history_load_request(&h->history, h->new_load, address, (size_t)size, a.enables));
     if (reason != KROFT_SV_RIGHT) return say(h->text, &a, reason);
     count_request(h, &a);
     keep(h, &h->loads, &a, h->new_load++, now);

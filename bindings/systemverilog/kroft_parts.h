@@ -142,7 +142,7 @@ static inline int has_unknown(const kroft_four_states *data, const access *a) {
 /* ---- what is said -------------------------------------------------------------------------------- */
 
 static const char *const REASONS[] = {
-    "right", "an access is of 1 to 64 bytes", "bytes outside of memory", "a store of no byte",
+    "right", "an access is of 1 to 64 bytes", "bytes outside of memory", "no byte is enabled",
     "the id still waits for its answer", "an answer that nobody waits for", "wrong data", "X or Z in the data",
     "a store inside of memory failed", "not the library of this header", "undecided: too many ways in one unit"};
 

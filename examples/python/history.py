@@ -66,7 +66,7 @@ def unlawful(actions, has_bug):
                 status = kroft.kroft_history_store_request(c.byref(handle), number, u64(words[1]), bytes([words[2]]), c.c_size_t(1), u64(1))
             elif kind == "load":
                 requested[words[0]] = ("load", words[1], None)
-                status = kroft.kroft_history_load_request(c.byref(handle), number, u64(words[1]), c.c_size_t(1))
+                status = kroft.kroft_history_load_request(c.byref(handle), number, u64(words[1]), c.c_size_t(1), u64(2**64 - 1))
             elif kind == "acts" and words[0] in requested:
                 what, address, byte = requested.pop(words[0])
                 if what == "store":

@@ -20,8 +20,8 @@ static void new_then_old(uint32_t law, uint32_t unit, uint32_t says) {
     kroft_history h = opened(law, unit, KROFT_ZEROS);
     uint64_t place = 77;
     CHECK(kroft_history_store_request(&h, 1, 3, new_, 1, 1) == KROFT_OK);
-    CHECK(kroft_history_load_request(&h, 1, 3, 1) == KROFT_OK && kroft_history_load_response(&h, 1, new_, 1) == KROFT_OK);
-    CHECK(kroft_history_load_request(&h, 2, 3, 1) == KROFT_OK);
+    CHECK(kroft_history_load_request(&h, 1, 3, 1, UINT64_MAX) == KROFT_OK && kroft_history_load_response(&h, 1, new_, 1) == KROFT_OK);
+    CHECK(kroft_history_load_request(&h, 2, 3, 1, UINT64_MAX) == KROFT_OK);
     CHECK(wrong_place(&h, 2, old, 1, &place) == says && place == (says == KROFT_OK ? 77 : 0));
     CHECK(kroft_history_load_response(&h, 2, old, 1) == says);
     if (says != KROFT_OK) CHECK(kroft_history_load_response(&h, 2, new_, 1) == KROFT_OK);
@@ -36,7 +36,7 @@ static void two_stores(uint32_t law, uint32_t unit, uint32_t other_order, uint32
     CHECK(kroft_history_store_request(&h, 1, 4096, ones, 2, 3) == KROFT_OK);
     CHECK(kroft_history_store_request(&h, 2, 4096, twos, 2, 3) == KROFT_OK);
     CHECK(kroft_history_store_response(&h, 1) == KROFT_OK && kroft_history_store_response(&h, 2) == KROFT_OK);
-    CHECK(kroft_history_load_request(&h, 7, 4096, 2) == KROFT_OK && kroft_history_load_request(&h, 8, 4096, 2) == KROFT_OK);
+    CHECK(kroft_history_load_request(&h, 7, 4096, 2, UINT64_MAX) == KROFT_OK && kroft_history_load_request(&h, 8, 4096, 2, UINT64_MAX) == KROFT_OK);
     CHECK(wrong_place(&h, 7, both, 2, &place) == torn && place == (torn == KROFT_OK ? 77 : 0));
     CHECK(kroft_history_load_response(&h, 7, both, 2) == torn);
     CHECK(kroft_history_load_response(&h, 8, ones, 2) == other_order);
@@ -48,10 +48,10 @@ static void faults(uint32_t unit) {
     static const uint8_t bytes[2] = {0x5a, 0};
     kroft_history h = opened(KROFT_ATOMIC_LAW, unit, KROFT_ZEROS);
     CHECK(kroft_history_store_request(&h, 1, 4096, bytes, 1, 1) == KROFT_OK && kroft_history_store_response(&h, 1) == KROFT_OK);
-    CHECK(kroft_history_load_request(&h, 1, 4096, 1) == KROFT_OK);
+    CHECK(kroft_history_load_request(&h, 1, 4096, 1, UINT64_MAX) == KROFT_OK);
     CHECK(kroft_history_load_response(&h, 1, bytes + 1, 1) == KROFT_FAIL_WRONG_BYTE);
-    CHECK(kroft_history_load_request(&h, 1, 0, 1) == KROFT_FAIL_NUMBER_IN_USE && kroft_history_load_request(&h, 2, 0, 0) == KROFT_FAIL_BAD_RANGE);
-    CHECK(kroft_history_load_request(&h, 2, 0, 65) == KROFT_FAIL_BAD_RANGE && kroft_history_load_request(&h, 2, UINT64_MAX, 2) == KROFT_FAIL_BAD_RANGE);
+    CHECK(kroft_history_load_request(&h, 1, 0, 1, UINT64_MAX) == KROFT_FAIL_NUMBER_IN_USE && kroft_history_load_request(&h, 2, 0, 0, UINT64_MAX) == KROFT_FAIL_BAD_RANGE);
+    CHECK(kroft_history_load_request(&h, 2, 0, 65, UINT64_MAX) == KROFT_FAIL_BAD_RANGE && kroft_history_load_request(&h, 2, UINT64_MAX, 2, UINT64_MAX) == KROFT_FAIL_BAD_RANGE);
     CHECK(kroft_history_store_request(&h, 1, 0, bytes, 1, 2) == KROFT_FAIL_NO_BYTE_ENABLED && kroft_history_store_response(&h, 1) == KROFT_FAIL_NOT_OPEN);
     CHECK(kroft_history_load_response(&h, 2, bytes, 1) == KROFT_FAIL_NOT_OPEN && kroft_history_load_response(&h, 1, bytes, 2) == KROFT_FAIL_WRONG_LENGTH);
     CHECK(kroft_history_load_response(&h, 1, bytes, 1) == KROFT_OK && kroft_history_close(&h) == KROFT_OK);
@@ -66,7 +66,7 @@ static void places(void) {
     uint64_t place = 77;
     CHECK(kroft_history_open(&h, KROFT_ATOMIC_LAW, 8, KROFT_ZEROS, image, 5) == KROFT_OK);
     CHECK(kroft_history_store_request(&h, 1, 8, stored, 8, 0xff) == KROFT_OK && kroft_history_store_response(&h, 1) == KROFT_OK);
-    CHECK(kroft_history_load_request(&h, 1, 4, 16) == KROFT_OK);
+    CHECK(kroft_history_load_request(&h, 1, 4, 16, UINT64_MAX) == KROFT_OK);
     memcpy(got + 4, stored, 8);
     CHECK(wrong_place(&h, 1, got, 16, &place) == KROFT_OK && place == 77);
     got[15] = 1;
@@ -92,12 +92,12 @@ static void sets(void) {
     uint8_t row[KROFT_SET_BYTES];
     kroft_history h = opened(KROFT_ATOMIC_LAW, 4, KROFT_ZEROS);
     CHECK(kroft_history_store_request(&h, 1, 6, bytes + 1, 1, 1) == KROFT_OK);
-    CHECK(kroft_history_load_request(&h, 1, 6, 1) == KROFT_OK && kroft_history_load_request(&h, 2, 6, 1) == KROFT_OK);
+    CHECK(kroft_history_load_request(&h, 1, 6, 1, UINT64_MAX) == KROFT_OK && kroft_history_load_request(&h, 2, 6, 1, UINT64_MAX) == KROFT_OK);
     CHECK(kroft_history_may_return(&h, 2, 6, row) == KROFT_OK && is_set(row, bytes, 2));
     CHECK(kroft_history_may_return(&h, 2, 7, row) == KROFT_ABSENT && kroft_history_may_return(&h, 3, 6, row) == KROFT_ABSENT);
     CHECK(kroft_history_load_response(&h, 1, bytes + 1, 1) == KROFT_OK);
     CHECK(kroft_history_may_return(&h, 2, 6, row) == KROFT_OK && is_set(row, bytes, 2)); /* it was open before */
-    CHECK(kroft_history_load_request(&h, 3, 6, 1) == KROFT_OK);
+    CHECK(kroft_history_load_request(&h, 3, 6, 1, UINT64_MAX) == KROFT_OK);
     CHECK(kroft_history_may_return(&h, 3, 6, row) == KROFT_OK && is_set(row, bytes + 1, 1));
     CHECK(kroft_history_close(&h) == KROFT_OK);
 }
@@ -108,7 +108,7 @@ enum { STORES = 13, UNIT = 64 };
    taken effect any may have been the last, which makes 5,544 pairs of six of twelve and one that was the last. */
 static void crowd(kroft_history *h) {
     uint8_t byte;
-    CHECK(kroft_history_load_request(h, 1, UNIT, 2) == KROFT_OK);
+    CHECK(kroft_history_load_request(h, 1, UNIT, 2, UINT64_MAX) == KROFT_OK);
     for (byte = 1; byte <= STORES; byte++) CHECK(kroft_history_store_request(h, byte, UNIT + 1, &byte, 1, 1) == KROFT_OK);
 }
 
@@ -121,7 +121,7 @@ static void undecided_store(void) {
     memset(all, 0xff, sizeof all);
     CHECK(kroft_history_undecided(&h, &address) == KROFT_ABSENT && address == 77);
     crowd(&h);
-    CHECK(kroft_history_load_request(&h, 2, 0, 1) == KROFT_OK && kroft_history_undecided(&h, &address) == KROFT_ABSENT && address == 77);
+    CHECK(kroft_history_load_request(&h, 2, 0, 1, UINT64_MAX) == KROFT_OK && kroft_history_undecided(&h, &address) == KROFT_ABSENT && address == 77);
     CHECK(kroft_history_store_response(&h, STORES) == KROFT_FAIL_UNDECIDED);
     CHECK(kroft_history_undecided(&h, &address) == KROFT_OK && address == UNIT);
     CHECK(count_open(&h, &loads, &stores) == KROFT_OK && loads == 2 && stores == STORES);
@@ -154,7 +154,7 @@ static void undecided_load(void) {
     CHECK(kroft_history_undecided(&h, &address) == KROFT_ABSENT && address == 77);
     CHECK(kroft_history_load_response(&h, 1, bytes, 2) == KROFT_FAIL_UNDECIDED);
     CHECK(kroft_history_undecided(&h, &address) == KROFT_OK && address == UNIT);
-    CHECK(kroft_history_load_request(&h, 2, 0, 1) == KROFT_OK);
+    CHECK(kroft_history_load_request(&h, 2, 0, 1, UINT64_MAX) == KROFT_OK);
     CHECK(kroft_history_undecided(&h, &address) == KROFT_ABSENT && address == UNIT);
     CHECK(kroft_history_close(&h) == KROFT_OK);
 }
@@ -164,7 +164,7 @@ static void unknown(void) {
     static const uint8_t some[2] = {7, 8}, other[2] = {7, 9};
     kroft_history h = opened(KROFT_ATOMIC_LAW, 2, KROFT_UNKNOWN);
     CHECK(kroft_history_store_request(&h, 1, 0, some, 2, 2) == KROFT_OK && kroft_history_store_response(&h, 1) == KROFT_OK);
-    CHECK(kroft_history_load_request(&h, 1, 0, 2) == KROFT_OK && kroft_history_load_response(&h, 1, other, 2) == KROFT_FAIL_WRONG_BYTE);
+    CHECK(kroft_history_load_request(&h, 1, 0, 2, UINT64_MAX) == KROFT_OK && kroft_history_load_response(&h, 1, other, 2) == KROFT_FAIL_WRONG_BYTE);
     CHECK(kroft_history_load_response(&h, 1, some, 2) == KROFT_OK && kroft_history_close(&h) == KROFT_OK);
 }
 

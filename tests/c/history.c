@@ -85,7 +85,7 @@ enum { STORIES = sizeof stories / sizeof *stories };
 
 static uint32_t tell(kroft_history *h, const step *it) {
     switch (it->kind) {
-        case 'L': return kroft_history_load_request(h, it->number, it->address, it->length);
+        case 'L': return kroft_history_load_request(h, it->number, it->address, it->length, UINT64_MAX);
         case 'l': return kroft_history_load_response(h, it->number, it->bytes, it->length);
         case 'S': return kroft_history_store_request(h, it->number, it->address, it->bytes, it->length, it->enables);
         default: return kroft_history_store_response(h, it->number);
@@ -127,7 +127,7 @@ static void sets(void) {
     CHECK(kroft_history_may_return(&h, 1, 0, row) == KROFT_FAIL_CLOSED);
     CHECK(kroft_history_open(&h, KROFT_REGULAR_LAW, 1, KROFT_UNKNOWN, image, 2) == KROFT_OK);
     CHECK(kroft_history_may_return(&h, 1, 0, row) == KROFT_ABSENT);
-    CHECK(kroft_history_load_request(&h, 1, 0, 3) == KROFT_OK);
+    CHECK(kroft_history_load_request(&h, 1, 0, 3, UINT64_MAX) == KROFT_OK);
     CHECK(kroft_history_may_return(&h, 1, 3, row) == KROFT_ABSENT);
     CHECK(kroft_history_may_return(&h, 2, 0, row) == KROFT_ABSENT);
     CHECK(memcmp(row, before, sizeof row) == 0);
@@ -150,13 +150,38 @@ static void places(void) {
     CHECK(wrong_place(&h, 1, bytes, 4, &place) == KROFT_FAIL_CLOSED && place == 77);
     CHECK(kroft_history_open(&h, KROFT_FLAT_LAW, 1, KROFT_ZEROS, bytes, 2) == KROFT_OK);
     CHECK(wrong_place(&h, 1, bytes, 4, &place) == KROFT_FAIL_NOT_OPEN && place == 77);
-    CHECK(kroft_history_load_request(&h, 1, 0, 4) == KROFT_OK);
+    CHECK(kroft_history_load_request(&h, 1, 0, 4, UINT64_MAX) == KROFT_OK);
     CHECK(wrong_place(&h, 1, bytes, 3, &place) == KROFT_FAIL_WRONG_LENGTH && place == 77);
     CHECK(wrong_place(&h, 1, bytes, 4, &place) == KROFT_FAIL_WRONG_BYTE && place == 2);
-    CHECK(kroft_history_load_request(&h, 2, 0, 2) == KROFT_OK);
+    CHECK(kroft_history_load_request(&h, 2, 0, 2, UINT64_MAX) == KROFT_OK);
     CHECK(wrong_place(&h, 2, bytes, 2, &place) == KROFT_OK && place == 2);
     CHECK(wrong_place(&h, 2, bytes + 1, 2, &place) == KROFT_FAIL_WRONG_BYTE && place == 0);
     CHECK(kroft_history_load_response(&h, 2, bytes, 2) == KROFT_OK && kroft_history_close(&h) == KROFT_OK);
+}
+
+/* What a load is answered of a byte that it doesn't enable isn't judged, by any law. */
+static void loads_with_enables(void) {
+    static const uint8_t stored[2] = {17, 17}, later[2] = {34, 34}, beside[2] = {99, 34}, wrong[2] = {99, 0};
+    uint8_t set[KROFT_SET_BYTES], all[KROFT_SET_BYTES];
+    uint32_t law;
+    memset(all, 0xff, sizeof all);
+    for (law = KROFT_REGULAR_LAW; law <= KROFT_ATOMIC_LAW; law++) {
+        kroft_history h = KROFT_NO_HISTORY;
+        uint64_t place = 77;
+        CHECK(kroft_history_open(&h, law, law == KROFT_ATOMIC_LAW ? 8 : 1, KROFT_ZEROS, NULL, 0) == KROFT_OK);
+        CHECK(kroft_history_store_request(&h, 1, 64, stored, 2, 3) == KROFT_OK && kroft_history_store_response(&h, 1) == KROFT_OK);
+        CHECK(kroft_history_store_request(&h, 1, 64, later, 2, 3) == KROFT_OK && kroft_history_store_response(&h, 1) == KROFT_OK);
+        CHECK(kroft_history_load_request(&h, 1, 64, 0, 0) == KROFT_FAIL_BAD_RANGE);
+        CHECK(kroft_history_load_request(&h, 1, 64, 2, 4) == KROFT_FAIL_NO_BYTE_ENABLED);
+        CHECK(kroft_history_load_request(&h, 1, 64, 2, 2) == KROFT_OK);
+        CHECK(kroft_history_load_request(&h, 1, 64, 2, 0) == KROFT_FAIL_NO_BYTE_ENABLED);
+        CHECK(kroft_history_load_request(&h, 1, 64, 2, 1) == KROFT_FAIL_NUMBER_IN_USE);
+        CHECK(kroft_history_may_return(&h, 1, 64, set) == KROFT_OK && memcmp(set, all, sizeof set) == 0);
+        CHECK(kroft_history_may_return(&h, 1, 65, set) == KROFT_OK && is_set(set, later, 1));
+        CHECK(wrong_place(&h, 1, wrong, 2, &place) == KROFT_FAIL_WRONG_BYTE && (law == KROFT_ATOMIC_LAW || place == 1));
+        CHECK(kroft_history_load_response(&h, 1, wrong, 2) == KROFT_FAIL_WRONG_BYTE);
+        CHECK(kroft_history_load_response(&h, 1, beside, 2) == KROFT_OK && kroft_history_close(&h) == KROFT_OK);
+    }
 }
 
 static int is_operation(const kroft_history_operation *it, uint64_t number, uint64_t address, uint64_t length) {
@@ -174,9 +199,9 @@ static void operations(void) {
     CHECK(kroft_history_unanswered(&h, KROFT_STORE, 0, &it, &count) == KROFT_FAIL_CLOSED && is_operation(&it, 5, 6, 7));
     CHECK(count == 10);
     CHECK(kroft_history_open(&h, KROFT_FLAT_LAW, 1, KROFT_ZEROS, NULL, 0) == KROFT_OK);
-    CHECK(kroft_history_load_request(&h, LAST, 16, 4) == KROFT_OK);
-    CHECK(kroft_history_load_request(&h, 3, 32, 1) == KROFT_OK);
-    CHECK(kroft_history_load_request(&h, 4, 48, 2) == KROFT_OK);
+    CHECK(kroft_history_load_request(&h, LAST, 16, 4, UINT64_MAX) == KROFT_OK);
+    CHECK(kroft_history_load_request(&h, 3, 32, 1, UINT64_MAX) == KROFT_OK);
+    CHECK(kroft_history_load_request(&h, 4, 48, 2, UINT64_MAX) == KROFT_OK);
     CHECK(kroft_history_store_request(&h, 3, 64, bytes, 4, 1) == KROFT_OK);
     CHECK(count_open(&h, &loads, &stores) == KROFT_OK && loads == 3 && stores == 1);
     CHECK(kroft_history_unanswered(&h, KROFT_LOAD, 0, &it, &count) == KROFT_OK && is_operation(&it, LAST, 16, 4));
@@ -231,14 +256,14 @@ static void handles(void) {
     static const uint8_t bytes[1] = {1};
     kroft_history h = KROFT_NO_HISTORY;
     CHECK(kroft_history_close(&h) == KROFT_FAIL_CLOSED);
-    CHECK(kroft_history_load_request(&h, 1, 0, 1) == KROFT_FAIL_CLOSED && kroft_history_load_response(&h, 1, bytes, 1) == KROFT_FAIL_CLOSED);
+    CHECK(kroft_history_load_request(&h, 1, 0, 1, UINT64_MAX) == KROFT_FAIL_CLOSED && kroft_history_load_response(&h, 1, bytes, 1) == KROFT_FAIL_CLOSED);
     CHECK(kroft_history_store_request(&h, 1, 0, bytes, 1, 1) == KROFT_FAIL_CLOSED && kroft_history_store_response(&h, 1) == KROFT_FAIL_CLOSED);
     CHECK(kroft_history_open(&h, 3, 1, KROFT_ZEROS, bytes, 1) == KROFT_FAIL_NO_LAW);
     CHECK(kroft_history_open(&h, KROFT_FLAT_LAW, 1, 2, bytes, 1) == KROFT_FAIL_NO_LAW);
     CHECK(kroft_history_open(&h, KROFT_FLAT_LAW, 0, KROFT_ZEROS, bytes, 1) == KROFT_FAIL_NO_LAW);
     CHECK(kroft_history_open(&h, KROFT_REGULAR_LAW, 2, KROFT_ZEROS, bytes, 1) == KROFT_FAIL_NO_LAW && h.open == 0);
     CHECK(kroft_history_open(&h, KROFT_REGULAR_LAW, 1, KROFT_ZEROS, bytes, 1) == KROFT_OK && h.open != 0);
-    CHECK(kroft_history_load_request(&h, 1, 0, 1) == KROFT_OK);
+    CHECK(kroft_history_load_request(&h, 1, 0, 1, UINT64_MAX) == KROFT_OK);
     CHECK(kroft_history_open(&h, 9, 1, KROFT_ZEROS, bytes, 0) == KROFT_FAIL_OPEN_ALREADY);
     CHECK(kroft_history_load_response(&h, 1, bytes, 1) == KROFT_OK);
     CHECK(kroft_history_close(&h) == KROFT_OK && kroft_history_close(&h) == KROFT_FAIL_CLOSED);
@@ -251,6 +276,7 @@ int main(void) {
         for (k = 0; k < STORIES; k++) tell_story(&stories[k], law);
     sets();
     places();
+    loads_with_enables();
     operations();
     coverage(KROFT_REGULAR_LAW, 1, 1);
     coverage(KROFT_FLAT_LAW, 1, 0);

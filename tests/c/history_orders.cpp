@@ -298,7 +298,7 @@ private:
             expect(kroft_history_store_request(&handle, it.number, it.address, bytes, it.length, it.enables), KROFT_OK, "a store's request");
         } else {
             it.standing.assign(history.flat.begin() + it.address, history.flat.begin() + it.address + it.length);
-            expect(kroft_history_load_request(&handle, it.number, it.address, it.length), KROFT_OK, "a load's request");
+            expect(kroft_history_load_request(&handle, it.number, it.address, it.length, UINT64_MAX), KROFT_OK, "a load's request");
         }
         history.operations.push_back(it);
         history.events++;

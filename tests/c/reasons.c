@@ -33,10 +33,10 @@ static void reasons(uint32_t law, uint32_t unit) {
     uint8_t bytes[2] = {0, 0};
     kroft_history h = opened(law, unit);
     kroft_history_reason why = nothing_yet();
-    CHECK(kroft_history_load_request(&h, 9, 64, 1) == KROFT_OK); /* event 0 */
+    CHECK(kroft_history_load_request(&h, 9, 64, 1, UINT64_MAX) == KROFT_OK); /* event 0 */
     store(&h, 21, 1, 0x5a);                                  /* events 1 and 2 */
     store(&h, 22, 1, 0x11);                                  /* events 3 and 4 */
-    CHECK(kroft_history_load_request(&h, 7, 0, 2) == KROFT_OK);
+    CHECK(kroft_history_load_request(&h, 7, 0, 2, UINT64_MAX) == KROFT_OK);
     bytes[0] = 0x80;
     bytes[1] = 0x5a;
     CHECK(kroft_history_why(&h, 7, bytes, 2, &why) == KROFT_FAIL_WRONG_BYTE && is_reason(&why, 1, 21, 1, 22, 3, KROFT_REASON_STORE_OVERWRITTEN));
@@ -62,8 +62,8 @@ static void new_then_old(uint32_t law, uint32_t unit, uint32_t reason) {
     kroft_history h = opened(law, unit);
     kroft_history_reason why = nothing_yet();
     CHECK(kroft_history_store_request(&h, 1, 3, later, 1, 1) == KROFT_OK);
-    CHECK(kroft_history_load_request(&h, 1, 3, 1) == KROFT_OK && kroft_history_load_response(&h, 1, later, 1) == KROFT_OK);
-    CHECK(kroft_history_load_request(&h, 2, 3, 1) == KROFT_OK);
+    CHECK(kroft_history_load_request(&h, 1, 3, 1, UINT64_MAX) == KROFT_OK && kroft_history_load_response(&h, 1, later, 1) == KROFT_OK);
+    CHECK(kroft_history_load_request(&h, 2, 3, 1, UINT64_MAX) == KROFT_OK);
     CHECK(kroft_history_why(&h, 2, old, 1, &why) == KROFT_FAIL_WRONG_BYTE && is_reason(&why, 0, 0, 0, 0, 0, reason));
     CHECK(kroft_history_close(&h) == KROFT_OK);
 }
@@ -79,7 +79,7 @@ static void torn_word(uint32_t unit) {
     memset(word, 0x22, sizeof word);
     CHECK(kroft_history_store_request(&h, 2, unit, word, unit, 255) == KROFT_OK);
     CHECK(kroft_history_store_response(&h, 1) == KROFT_OK && kroft_history_store_response(&h, 2) == KROFT_OK);
-    CHECK(kroft_history_load_request(&h, 1, 0, 2 * unit) == KROFT_OK);
+    CHECK(kroft_history_load_request(&h, 1, 0, 2 * unit, UINT64_MAX) == KROFT_OK);
     memset(bytes, 0, sizeof bytes);
     bytes[0] = image[0];
     memset(bytes + unit, 0x11, unit);
@@ -103,14 +103,14 @@ static void remembered(void) {
     unsigned k;
     store(&h, 1, 0, first[0]);
     store(&h, 2, 0, 0x11);
-    CHECK(kroft_history_load_request(&h, 1, 0, 1) == KROFT_OK);
+    CHECK(kroft_history_load_request(&h, 1, 0, 1, UINT64_MAX) == KROFT_OK);
     for (k = 0; k < 8189; k++) store(&h, 3, 8, (uint8_t)k);
     CHECK(kroft_history_why(&h, 1, first, 1, &why) == KROFT_FAIL_WRONG_BYTE && is_reason(&why, 0, 1, 0, 2, 2, KROFT_REASON_STORE_OVERWRITTEN));
     store(&h, 3, 8, 0);
     CHECK(kroft_history_why(&h, 1, first, 1, &why) == KROFT_FAIL_WRONG_BYTE && is_reason(&why, 0, 0, 0, 0, 0, KROFT_REASON_NONE));
     store(&h, 4, 1, 7);
     store(&h, 5, 1, 8);
-    CHECK(kroft_history_load_request(&h, 2, 1, 1) == KROFT_OK);
+    CHECK(kroft_history_load_request(&h, 2, 1, 1, UINT64_MAX) == KROFT_OK);
     {
         static const uint8_t seven[1] = {7};
         CHECK(kroft_history_why(&h, 2, seven, 1, &why) == KROFT_FAIL_WRONG_BYTE);

@@ -40,7 +40,7 @@ static uint32_t call(kroft_history *h, uint32_t law, unsigned k) {
     static const uint8_t bytes[4] = {1, 2, 3, 4};
     if (k == 0) return kroft_history_open(h, law, law == KROFT_ATOMIC_LAW ? 8 : 1, KROFT_ZEROS, bytes, 4);
     if (k <= 40) return kroft_history_store_request(h, k, 8 * k, bytes, 4, 15);
-    if (k <= 80) return kroft_history_load_request(h, k, 8 * (k - 40), 4);
+    if (k <= 80) return kroft_history_load_request(h, k, 8 * (k - 40), 4, UINT64_MAX);
     if (k <= 120) return kroft_history_load_response(h, k - 40, bytes, 4);
     return kroft_history_store_response(h, k - 120);
 }
@@ -96,7 +96,7 @@ static void questions(void) {
     int which;
     granted = 1000000;
     CHECK(kroft_history_open(&h, KROFT_ATOMIC_LAW, 8, KROFT_ZEROS, bytes, 0) == KROFT_OK);
-    CHECK(kroft_history_store_request(&h, 1, 8, bytes, 2, 3) == KROFT_OK && kroft_history_load_request(&h, 1, 8, 2) == KROFT_OK);
+    CHECK(kroft_history_store_request(&h, 1, 8, bytes, 2, 3) == KROFT_OK && kroft_history_load_request(&h, 1, 8, 2, UINT64_MAX) == KROFT_OK);
     for (which = 0; which < 4; which++) {
         long refused, before = held;
         uint32_t status = KROFT_FAIL_OUT_OF_MEMORY;
@@ -156,10 +156,10 @@ static void stays_small(uint32_t law) {
     granted = 10000000;
     largest = 0;
     CHECK(kroft_history_open(&h, law, law == KROFT_ATOMIC_LAW ? 8 : 1, KROFT_ZEROS, NULL, 0) == KROFT_OK);
-    CHECK(kroft_history_load_request(&h, 0, 8, 4) == KROFT_OK);
+    CHECK(kroft_history_load_request(&h, 0, 8, 4, UINT64_MAX) == KROFT_OK);
     for (k = 0; k < 20000; k++) {
         const uint8_t bytes[4] = {(uint8_t)k, (uint8_t)(k >> 8), 1, 2};
-        CHECK(kroft_history_load_request(&h, k + 1, 8, 4) == KROFT_OK && kroft_history_store_request(&h, k, 8, bytes, 4, 15) == KROFT_OK);
+        CHECK(kroft_history_load_request(&h, k + 1, 8, 4, UINT64_MAX) == KROFT_OK && kroft_history_store_request(&h, k, 8, bytes, 4, 15) == KROFT_OK);
         CHECK(kroft_history_store_response(&h, k) == KROFT_OK && kroft_history_load_response(&h, k, bytes, 4) == KROFT_OK);
         if (k < 2000) {
             most = largest;

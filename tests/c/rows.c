@@ -236,7 +236,7 @@ static void operations(void) {
     uint64_t count;
     const uint8_t bytes[3] = {81, 82, 83};
     CHECK(kroft_history_open(&history, KROFT_REGULAR_LAW, 1, KROFT_ZEROS, bytes, 3) == KROFT_OK);
-    CHECK(kroft_history_load_request(&history, 601, 702, 8) == KROFT_OK);
+    CHECK(kroft_history_load_request(&history, 601, 702, 8, UINT64_MAX) == KROFT_OK);
     CHECK(kroft_history_store_request(&history, 603, 704, bytes, 3, 7) == KROFT_OK);
     CHECK(kroft_history_unanswered(&history, KROFT_LOAD, 0, &it, &count) == KROFT_OK && it.number == 601 && it.address == 702 && it.length == 8);
     CHECK(kroft_history_unanswered(&history, KROFT_STORE, 0, &it, &count) == KROFT_OK && it.number == 603 && it.address == 704 && it.length == 3);

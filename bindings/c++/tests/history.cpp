@@ -25,6 +25,20 @@ void check(bool holds, const char *what) {
     std::printf("not so: %s\n", what);
 }
 
+void a_load_with_enables() {
+    const uint8_t stored[2] = {0x11, 0x22}, beside[2] = {0x99, 0x22}, wrong[2] = {0x11, 0x99};
+    for (kroft::Law law : {kroft::Law::Regular, kroft::Law::Flat, kroft::Law::Atomic}) {
+        kroft::History history(law);
+        check(history.store_request(1, 0x1000, stored, 2) && history.store_response(1), "a store");
+        check(history.load_request(1, 0x1000, 2, 4).fault() == KROFT_FAIL_NO_BYTE_ENABLED, "a load of no byte");
+        check(bool(history.load_request(1, 0x1000, 2, 2)), "a load of one byte of two");
+        auto may = history.may_return(1, 0x1000);
+        check(may && may->count() == 256u, "a byte that isn't enabled may be anything");
+        check(!history.load_response(1, wrong, 2), "the byte that is enabled is judged");
+        check(bool(history.load_response(1, beside, 2)), "the other isn't");
+    }
+}
+
 void a_load_beside_a_store() {
     const uint8_t stored[2] = {0x5a, 0x5b}, wrong[2] = {0x5a, 0x5b}, right[2] = {0x5a, 0};
     for (kroft::Law law : {kroft::Law::Regular, kroft::Law::Flat}) {
@@ -238,6 +252,7 @@ long accesses_until_blame(long most, bool loses, unsigned seed) {
 } // namespace
 
 int main() {
+    a_load_with_enables();
     a_load_beside_a_store();
     no_bytes();
     new_then_old();

@@ -28,7 +28,7 @@ class HistoryFault(enum.IntEnum):
     """Why a history with an event is none of its law."""
 
     BAD_RANGE = 151  #: the operation has no byte or more than 64, or runs beyond the last address
-    NO_BYTE_ENABLED = 152  #: no byte of the store is enabled
+    NO_BYTE_ENABLED = 152  #: no byte is enabled
     NUMBER_IN_USE = 153  #: an operation of this kind is open under the number
     NOT_OPEN = 154  #: no operation of this kind is open under the number
     WRONG_LENGTH = 155  #: the load was requested with another length
@@ -121,10 +121,14 @@ class History:
             raise MemoryError("no history was opened")
         assert status == _OK, status
 
-    def load_request(self, number: SupportsIndex, address: SupportsIndex, length: SupportsIndex) -> None:
-        """A load of `length` bytes from `address` on is requested."""
+    def load_request(
+        self, number: SupportsIndex, address: SupportsIndex, length: SupportsIndex, enables: Optional[SupportsIndex] = None
+    ) -> None:
+        """A load of the bytes whose enable is set is requested, of `length` from `address` on: bit `k` of `enables` is that of byte
+        `k`; none: all are. What is answered of the others isn't judged."""
         number, address, length = _word(number), _word(address), _word(length)
-        self._tell(f"load {number} of {length} bytes at {address:#x}", "kroft_history_load_request", number, address, length)
+        mask = 2**64 - 1 if enables is None else _word(enables)
+        self._tell(f"load {number} of {length} bytes at {address:#x}", "kroft_history_load_request", number, address, length, mask)
 
     def load_response(self, number: SupportsIndex, data: Buffer) -> None:
         """The load that is open under the number is answered with these bytes."""

@@ -177,7 +177,7 @@ def declare(library: c.CDLL) -> c.CDLL:
         "kroft_flat_unanswered": [out, u32, out],
         "kroft_history_open": [handle, u32, u32, u32, out, c.c_size_t],
         "kroft_history_close": [handle],
-        "kroft_history_load_request": [handle, u64, u64, c.c_size_t],
+        "kroft_history_load_request": [handle, u64, u64, c.c_size_t, u64],
         "kroft_history_load_response": [handle, u64, out, c.c_size_t],
         "kroft_history_store_request": [handle, u64, u64, out, c.c_size_t, u64],
         "kroft_history_store_response": [handle, u64],

@@ -59,6 +59,21 @@ class Histories(unittest.TestCase):
             history.load_response(1, b"\x01\x02")
             history.store_response(1)
 
+    def test_a_load_with_enables(self) -> None:
+        for law in Law:
+            with self.subTest(law=law), History(law) as history:
+                history.store_request(1, 0x1000, b"\x11\x22")
+                history.store_response(1)
+                with self.assertRaises(NotLawful) as refused:
+                    history.load_request(1, 0x1000, 2, 4)
+                self.assertEqual(refused.exception.cause, HistoryFault.NO_BYTE_ENABLED)
+                history.load_request(1, 0x1000, 2, 2)
+                self.assertEqual(history.may_return(1, 0x1000), set(range(256)))
+                self.assertEqual(history.may_return(1, 0x1001), {0x22})
+                with self.assertRaises(NotLawful):
+                    history.load_response(1, b"\x11\x99")
+                history.load_response(1, b"\x99\x22")
+
     def test_a_number_is_no_data(self) -> None:
         with self.assertRaises(TypeError):
             History(image=5)  # type: ignore[arg-type]

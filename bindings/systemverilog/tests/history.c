@@ -38,7 +38,7 @@ static int store(uint64_t id, uint64_t address, uint8_t byte, uint64_t now) {
 
 static int stored(uint64_t id) { return kroft_sv_store_response(history, id); }
 
-static int load(uint64_t id, uint64_t address, uint64_t now) { return kroft_sv_load_request(history, id, address, 1, now); }
+static int load(uint64_t id, uint64_t address, uint64_t now) { return kroft_sv_load_request(history, id, address, 1, ~0ULL, now); }
 
 static int value(uint64_t id, uint8_t byte) { return kroft_sv_load_response(history, id, data_of(&byte, 1)); }
 
@@ -83,7 +83,7 @@ static void reasons(void) {
     expect_why(__LINE__, KROFT_REASON_NONE, -1, 0, 0, 0, 0);
     EXPECT(store(21, 0x101, 0x5a, 10) == KROFT_SV_RIGHT && stored(21) == KROFT_SV_RIGHT);
     EXPECT(store(22, 0x101, 0x11, 12) == KROFT_SV_RIGHT && stored(22) == KROFT_SV_RIGHT);
-    EXPECT(kroft_sv_load_request(history, 7, 0x100, 2, 15) == KROFT_SV_RIGHT);
+    EXPECT(kroft_sv_load_request(history, 7, 0x100, 2, ~0ULL, 15) == KROFT_SV_RIGHT);
     EXPECT(kroft_sv_load_response(history, 7, data_of(two, 2)) == KROFT_SV_WRONG_DATA);
     EXPECT(says("load 7 of 2 bytes at 0x100, requested at 15: wrong data: got 005a: byte 1 is 5a, and may be 11; store 21 (of 10) put it "
                 "there, and store 22 (of 12) overwrote it"));
@@ -99,11 +99,31 @@ static void reasons(void) {
     expect_why(__LINE__, KROFT_REASON_NEVER_THERE, 0, 0, 0, 0, 0); /* of the last that was wrong */
 }
 
+/* What a load is answered of a byte that it doesn't enable isn't judged, and may have X or Z. */
+static void enables(void) {
+    uint8_t two[2] = {0x99, 0x22};
+    kroft_four_states data[16];
+    uint32_t law;
+    for (law = KROFT_REGULAR_LAW; law <= KROFT_ATOMIC_LAW; law++) {
+        begin(law, 0);
+        EXPECT(store(1, 0x101, 0x22, 0) == KROFT_SV_RIGHT && stored(1) == KROFT_SV_RIGHT);
+        EXPECT(kroft_sv_load_request(history, 5, 0x100, 2, 4, 0) == KROFT_SV_NO_BYTES);
+        EXPECT(kroft_sv_load_request(history, 5, 0x100, 2, 2, 0) == KROFT_SV_RIGHT);
+        EXPECT(kroft_sv_load_request(history, 5, 0x100, 2, 0, 0) == KROFT_SV_NO_BYTES);
+        memcpy(data, data_of(two, 2), sizeof data);
+        data[0].unknown |= 0xff;
+        EXPECT(kroft_sv_load_response(history, 5, data) == KROFT_SV_RIGHT);
+        EXPECT(kroft_sv_load_request(history, 6, 0x100, 2, 2, 0) == KROFT_SV_RIGHT);
+        data[0].unknown = 0xff00;
+        EXPECT(kroft_sv_load_response(history, 6, data) == KROFT_SV_UNKNOWN_DATA);
+    }
+}
+
 static void refusals(void) {
     const kroft_four_states *none = data_of(NULL, 0);
     begin(KROFT_REGULAR_LAW, 0);
-    EXPECT(kroft_sv_load_request(history, 1, 0, 0, 0) == KROFT_SV_BAD_SIZE && kroft_sv_load_request(history, 1, 0, 65, 0) == KROFT_SV_BAD_SIZE);
-    EXPECT(kroft_sv_load_request(history, 1, ~0ULL, 2, 0) == KROFT_SV_OUTSIDE && load(1, ~0ULL, 0) == KROFT_SV_RIGHT);
+    EXPECT(kroft_sv_load_request(history, 1, 0, 0, ~0ULL, 0) == KROFT_SV_BAD_SIZE && kroft_sv_load_request(history, 1, 0, 65, ~0ULL, 0) == KROFT_SV_BAD_SIZE);
+    EXPECT(kroft_sv_load_request(history, 1, ~0ULL, 2, ~0ULL, 0) == KROFT_SV_OUTSIDE && load(1, ~0ULL, 0) == KROFT_SV_RIGHT);
     EXPECT(load(1, 0, 0) == KROFT_SV_ID_IN_USE && store(1, 0, 1, 0) == KROFT_SV_RIGHT && store(1, 0, 1, 0) == KROFT_SV_ID_IN_USE);
     EXPECT(kroft_sv_store_request(history, 2, 0, 4, none, 0xf0, 0) == KROFT_SV_NO_BYTES);
     EXPECT(stored(2) == KROFT_SV_NOTHING_OWED && value(2, 0) == KROFT_SV_NOTHING_OWED && kroft_sv_load_error(history, 2) == KROFT_SV_NOTHING_OWED);
@@ -125,7 +145,7 @@ static void unknown_and_failed(void) {
         EXPECT(kroft_sv_store_request(history, 1, 0x20, 2, data, 1, 0) == KROFT_SV_RIGHT && stored(1) == KROFT_SV_RIGHT);
         EXPECT(kroft_sv_store_request(history, 1, 0x30, 2, data, 3, 0) == KROFT_SV_UNKNOWN_DATA && stored(1) == KROFT_SV_RIGHT);
         EXPECT(load(1, 0x20, 0) == KROFT_SV_RIGHT && kroft_sv_load_response(history, 1, data) == KROFT_SV_RIGHT);
-        EXPECT(kroft_sv_load_request(history, 1, 0x20, 2, 4) == KROFT_SV_RIGHT);
+        EXPECT(kroft_sv_load_request(history, 1, 0x20, 2, ~0ULL, 4) == KROFT_SV_RIGHT);
         EXPECT(kroft_sv_load_response(history, 1, data) == KROFT_SV_UNKNOWN_DATA);
         EXPECT(says("load 1 of 2 bytes at 0x20, requested at 4: X or Z in the data") && kroft_sv_open_count(history) == 0);
         EXPECT(load(1, 0x20, 0) == KROFT_SV_RIGHT && kroft_sv_load_error(history, 1) == KROFT_SV_RIGHT);
@@ -147,7 +167,7 @@ static void images(void) {
     EXPECT(kroft_sv_image(history, unknown, 3) == 0 && kroft_sv_image(history, unknown, 64) == 0 && kroft_sv_image(history, unknown, -1) == 0);
     EXPECT(kroft_sv_image(history, unknown, 0) == 1);
     EXPECT(kroft_sv_image(history, data_of(first, 3), 3) == 1 && kroft_sv_image(history, data_of(most, 64), 64) == 1);
-    EXPECT(kroft_sv_image(history, data_of(most, 64), 65) == 0 && kroft_sv_load_request(history, 1, 0, 64, 0) == KROFT_SV_RIGHT);
+    EXPECT(kroft_sv_image(history, data_of(most, 64), 65) == 0 && kroft_sv_load_request(history, 1, 0, 64, ~0ULL, 0) == KROFT_SV_RIGHT);
     EXPECT(kroft_sv_image(history, data_of(first, 3), 3) == 0);
     for (i = 0; i < 4; i++) {
         const uint8_t byte = (uint8_t)(i + 1);
@@ -179,7 +199,7 @@ static void laws(void) {
         begin(KROFT_ATOMIC_LAW, unit);
         EXPECT(kroft_sv_store_request(history, 1, 0x20, 2, data_of(ones, 2), 3, 0) == KROFT_SV_RIGHT);
         EXPECT(kroft_sv_store_request(history, 2, 0x20, 2, data_of(twos, 2), 3, 0) == KROFT_SV_RIGHT);
-        EXPECT(stored(1) == KROFT_SV_RIGHT && stored(2) == KROFT_SV_RIGHT && kroft_sv_load_request(history, 1, 0x20, 2, 0) == KROFT_SV_RIGHT);
+        EXPECT(stored(1) == KROFT_SV_RIGHT && stored(2) == KROFT_SV_RIGHT && kroft_sv_load_request(history, 1, 0x20, 2, ~0ULL, 0) == KROFT_SV_RIGHT);
         EXPECT(kroft_sv_load_response(history, 1, data_of(torn, 2)) == (unit == 1 ? KROFT_SV_RIGHT : KROFT_SV_WRONG_DATA));
     }
 }
@@ -204,7 +224,7 @@ static void a_load_that_failed(void) {
     uint64_t n = 0;
     int reason = KROFT_SV_RIGHT;
     begin(KROFT_ATOMIC_LAW, 0);
-    EXPECT(kroft_sv_load_request(history, 1, 0x1000, 8, 0) == KROFT_SV_RIGHT && kroft_sv_load_error(history, 1) == KROFT_SV_RIGHT);
+    EXPECT(kroft_sv_load_request(history, 1, 0x1000, 8, ~0ULL, 0) == KROFT_SV_RIGHT && kroft_sv_load_error(history, 1) == KROFT_SV_RIGHT);
     for (; n < 70000 && reason == KROFT_SV_RIGHT; n++) {
         const uint8_t bytes[4] = {(uint8_t)n, (uint8_t)(n >> 8), (uint8_t)(n >> 16), 1};
         EXPECT(kroft_sv_store_request(history, n, 0x1000, 4, data_of(bytes, 4), 15, 0) == KROFT_SV_RIGHT);
@@ -222,7 +242,7 @@ static void open_operations(void) {
     unsigned long long id, address, now;
     int is_store, size;
     begin(KROFT_REGULAR_LAW, 0);
-    EXPECT(kroft_sv_load_request(history, FAR, FAR, 4, 3) == KROFT_SV_RIGHT);
+    EXPECT(kroft_sv_load_request(history, FAR, FAR, 4, ~0ULL, 3) == KROFT_SV_RIGHT);
     EXPECT(kroft_sv_store_request(history, FAR, FAR + 2, 4, data_of(zeros, 4), 0xd, 4) == KROFT_SV_RIGHT); /* its byte 0 is the load's 2 */
     EXPECT(kroft_sv_store_request(history, 1, FAR + 3, 1, data_of(zeros, 1), 1, 5) == KROFT_SV_RIGHT);     /* what the first leaves out */
     EXPECT(kroft_sv_store_request(history, 2, FAR + 5, 1, data_of(zeros, 1), 1, 6) == KROFT_SV_RIGHT);     /* its byte 3 */
@@ -278,7 +298,7 @@ static void random_calls(unsigned law) {
             random_answer(FAR + id, loads[id].address, loads[id].size);
             loads[id].is_open = 0;
         } else {
-            EXPECT(kroft_sv_load_request(history, FAR + id, address, size, 0) == KROFT_SV_RIGHT);
+            EXPECT(kroft_sv_load_request(history, FAR + id, address, size, ~0ULL, 0) == KROFT_SV_RIGHT);
             loads[id].is_open = 1;
             loads[id].address = address;
             loads[id].size = size;
@@ -289,6 +309,7 @@ static void random_calls(unsigned law) {
 int main(void) {
     windows();
     reasons();
+    enables();
     refusals();
     unknown_and_failed();
     images();

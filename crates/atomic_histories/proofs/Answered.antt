@@ -5,7 +5,8 @@ use Rattle.std.proofs.Common.{sym, ap, ◌∙◌, subst, zero, suc, ◌+◌, ◌
 use Rattle.std.specs.List.{list_all, list_any, find, range_with_len}
 use Rattle.std.proofs.lemmas.Bool.{cases_Bool, and_parts, and_from, or_right, or_left, or_cases, or_parts}
 use Rattle.atomic_histories.specs.declared.unit.UnitPlace.{UnitPlace}
-use Rattle.atomic_histories.specs.Words.{is_word_of, byte_for, written, is_as_it_stood}
+use Rattle.atomic_histories.specs.declared.unit.LoadAddress.{LoadAddress}
+use Rattle.atomic_histories.specs.Words.{is_word_of, read_byte, written, is_as_it_stood}
 use Rattle.atomic_histories.specs.Law.{OpenLoad, UnitMemory, is_load, is_got, may_answer_load, without_load, done_store}
 use Rattle.atomic_histories.specs.Branches.{Watched, Branch, with_word, is_watched, may_have, has_answer, branch_without_load, effect_of}
 use Rattle.atomic_histories.specs.Branches.{gives, may_come_in, may_come}
@@ -205,7 +206,7 @@ come_before k word before s after answer open_ h =
     ]
 
 -- a word of which a store makes an answer's may come to it
-pub effect_comes : (unit : UnitPlace) (address : ℕ) (bytes : List ℕ) (word : Word) (before : List OpenStore) (s : OpenStore)
+pub effect_comes : (unit : UnitPlace) (address : LoadAddress) (bytes : List ℕ) (word : Word) (before : List OpenStore) (s : OpenStore)
     (after : List OpenStore) → s.is_done ≡ false → is_word_of unit.first (written s.bytes word) address bytes ≡ true
     → may_come unit address bytes word (before ++ s ∷ after) ≡ true
 effect_comes unit address bytes word before s after open_ h =
@@ -229,8 +230,8 @@ module _ (unit : UnitPlace) (number : ℕ) (bytes : List ℕ) (e : Branch) (befo
   on : Branch
   on = effect_of e before s after
 
-  come : (l : Watched) (k : ℕ) → may_come_in k on.word on.stores (byte_for l.address bytes (unit.first + k)) ≡ true
-      → may_come_in k e.word e.stores (byte_for l.address bytes (unit.first + k)) ≡ true
+  come : (l : Watched) (k : ℕ) → may_come_in k on.word on.stores (read_byte l.address bytes (unit.first + k)) ≡ true
+      → may_come_in k e.word e.stores (read_byte l.address bytes (unit.first + k)) ≡ true
   unfolding on
   come l k h = grind (arith, l.address, come_before)
 
@@ -267,7 +268,7 @@ module _ (unit : UnitPlace) (number : ℕ) (bytes : List ℕ) where
 -- The load that is found under a number. ----
 
 -- the word that stands there may come to be one of an answer if it is one
-pub word_may_come : (unit : UnitPlace) (address : ℕ) (bytes : List ℕ) (word : Word) (stores : List OpenStore)
+pub word_may_come : (unit : UnitPlace) (address : LoadAddress) (bytes : List ℕ) (word : Word) (stores : List OpenStore)
     → is_word_of unit.first word address bytes ≡ true → may_come unit address bytes word stores ≡ true
 word_may_come unit address bytes word stores h = grind (arith, always_all, or_left, word_lane)
 

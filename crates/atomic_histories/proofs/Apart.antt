@@ -11,6 +11,8 @@ use Rattle.memory_histories.specs.declared.events.HistoryEvent.{HistoryEvent}
 use Rattle.memory_histories.specs.declared.events.HistoryEvent.TheVariants.{LoadRequest, LoadResponse, StoreRequest, StoreResponse}
 use Rattle.atomic_histories.specs.declared.unit.OpenStore.{OpenStore}
 use Rattle.atomic_histories.specs.declared.unit.UnitPlace.{UnitPlace}
+use Rattle.atomic_histories.specs.declared.unit.LoadAddress.{LoadAddress}
+use Rattle.atomic_histories.specs.Words.{reads_from}
 use Rattle.atomic_histories.specs.declared.unit.WatchedLoad.{WatchedLoad}
 use Rattle.atomic_histories.specs.Law.{is_store, may_answer_store}
 use Rattle.atomic_histories.specs.Followed.{Pair, Ways, Aim, with_pair, with_pairs, word_aim, next_of, out_after, met, rounds, pair_got}
@@ -141,7 +143,8 @@ pub record IsShaped (u : Ways) : Type 0 where
   pub apart : AreApart u.pairs
   pub alike : (keys : Keys) × Each (IsOfStores keys) u.pairs
 
-load_shaped : (b : Bool) (number address : ℕ) (u : Ways) → IsShaped u → IsShaped (if b then ways_with_load number address u else u)
+load_shaped : (b : Bool) (number : ℕ) (address : LoadAddress) (u : Ways) → IsShaped u
+    → IsShaped (if b then ways_with_load number address u else u)
 load_shaped x0 number address u s = grind arith
 
 store_shaped : (b : Bool) (number : ℕ) (bytes : List (Option ℕ)) (u : Ways) → IsShaped u
@@ -213,7 +216,7 @@ store_answered number u asked s =
 
 pub event_shaped : (unit : UnitPlace) (event : HistoryEvent) (u : Ways) → Each (IsAsked u.moment) u.loads → IsShaped u
     → IsShaped (ways_after unit u event)
-event_shaped unit (LoadRequest number address n) u asked s = load_shaped _ number address u s
+event_shaped unit (LoadRequest number address n enables) u asked s = load_shaped _ number (reads_from address enables) u s
 event_shaped unit (LoadResponse number bytes) u asked s =
     let r = answered_shape unit bytes.now _ u asked s in
     let c = cut_shaped _ _ s.alike.0

@@ -2,6 +2,7 @@
 use Rattle.std.proofs.Common.{◌≡◌, ℕ, ◌⊎◌, false, List, [], ◌∷◌, ◌++◌, map, Option, Some, None, inl, inr, refl, sym, ap, ◌∙◌, subst, Bool}
 use Rattle.std.proofs.Common.{arith, true, ◌&&◌, ◌||◌, not, filter, append_assoc}
 use Rattle.atomic_histories.specs.declared.unit.OpenStore.{OpenStore}
+use Rattle.atomic_histories.specs.declared.unit.LoadAddress.{LoadAddress}
 use Rattle.atomic_histories.specs.Words.{written}
 use Rattle.atomic_histories.specs.Law.{OpenLoad, UnitMemory, HiddenStep, done_store, done_load, is_store, may_answer_store, with_load}
 use Rattle.atomic_histories.specs.Law.{with_store, without_store}
@@ -140,7 +141,7 @@ leads_watched l {e} {m} (later before s after split open_ r) =
     later before s after split open_
     (rw (sym (map-append (with_word e.word) e.loads (l ∷ []))) at (leads_watched (with_word e.word l) r))
 
-pub leads_with_load : (number address : ℕ) (e : Branch) (m : UnitMemory) → Leads e m
+pub leads_with_load : (number : ℕ) (address : LoadAddress) (e : Branch) (m : UnitMemory) → Leads e m
     → Leads (branch_with_load number address e) (with_load number address m)
 leads_with_load number address e m r = leads_watched (record { number = number; address = address; words = [] }) r
 
@@ -156,7 +157,7 @@ watched_pop w (x ∷ xs) l (n ∷ ns) h = let r = watched_pop w xs l ns h.1 in (
 got_now : (w : Word) (g : Option Word) → MayHaveGot w [] g → (g ≡ None) ⊎ (g ≡ Some w)
 got_now w x1 h = grind arith
 
-pub sound_with_load : (number address : ℕ) (P Q : UnitMemory → Type 0) → ((m n : UnitMemory) → Q m → HiddenStep m n → Q n)
+pub sound_with_load : (number : ℕ) (address : LoadAddress) (P Q : UnitMemory → Type 0) → ((m n : UnitMemory) → Q m → HiddenStep m n → Q n)
     → ((m : UnitMemory) → P m → Q (with_load number address m)) → (e : Branch)
     → ((m : UnitMemory) → IsOn e m → P m) → (n : UnitMemory) → IsOn (branch_with_load number address e) n → Q n
 sound_with_load number address P Q closed seen e sound n o =

@@ -9,8 +9,9 @@ use Rattle.memory_histories.specs.declared.events.HistoryEvent.{HistoryEvent}
 use Rattle.memory_histories.specs.declared.events.HistoryEvent.TheVariants.{LoadRequest, LoadResponse, StoreRequest, StoreResponse}
 use Rattle.memory_histories.specs.declared.events.Rest.{Rest}
 use Rattle.atomic_histories.specs.declared.unit.UnitPlace.{UnitPlace}
+use Rattle.atomic_histories.specs.declared.unit.LoadAddress.{LoadAddress}
 use Rattle.atomic_histories.specs.declared.unit.WatchedLoad.{WatchedLoad}
-use Rattle.atomic_histories.specs.Words.{at_unit, stored_byte}
+use Rattle.atomic_histories.specs.Words.{at_unit, stored_byte, reads_from}
 use Rattle.atomic_histories.specs.Law.{OpenLoad, UnitMemory, HiddenStep, MayBe, starts, steps, sees, untouched, seen, with_load, with_store}
 use Rattle.atomic_histories.specs.Law.{without_load, without_store, may_answer_load, may_answer_store}
 use Rattle.atomic_histories.specs.Pasts.{Stood}
@@ -51,15 +52,16 @@ LeadsTo u m = One (OneWay u.loads (λ b. Leads b m)) u.pairs
 
 -- A load is requested. ----
 
-new_load : ℕ → ℕ → ℕ → WatchedLoad
+new_load : ℕ → LoadAddress → ℕ → WatchedLoad
 new_load number address n = record { number = number; address = address; since = n + 1 }
 
-way_requested : (number address n : ℕ) (ls : List WatchedLoad) (e : Pair) (path : List Stood) → Each (λ s. s.moment ≤ n) path
+way_requested : (number : ℕ) (address : LoadAddress) (n : ℕ) (ls : List WatchedLoad) (e : Pair) (path : List Stood)
+    → Each (λ s. s.moment ≤ n) path
     → way_on (ls ++ new_load number address n ∷ []) e path ≡ branch_with_load number address (way_on ls e path)
 unfolding new_load
 way_requested number address n ls e path by = grind (arith, seen_none, map-append)
 
-requested_load_fits : (number address : ℕ) (P Q : UnitMemory → Type 0) → IsClosed Q
+requested_load_fits : (number : ℕ) (address : LoadAddress) (P Q : UnitMemory → Type 0) → IsClosed Q
     → ((m : UnitMemory) → P m → Q (with_load number address m))
     → (u : Ways) → Fits P u → Fits Q (ways_with_load number address u)
 unfolding new_load
@@ -74,7 +76,7 @@ requested_load_fits number address P Q closed f u s =
       )) u.pairs s.sound;
     }
 
-requested_load_leads : (number address : ℕ) (m : UnitMemory) (u : Ways) → Each (IsPairBy u.moment) u.pairs → LeadsTo u m
+requested_load_leads : (number : ℕ) (address : LoadAddress) (m : UnitMemory) (u : Ways) → Each (IsPairBy u.moment) u.pairs → LeadsTo u m
     → LeadsTo (ways_with_load number address u) (with_load number address m)
 unfolding new_load
 requested_load_leads number address m u by o =
@@ -238,8 +240,8 @@ fits_still P Q f u s = record {
 pub event_fits : (unit : UnitPlace) (P Q : UnitMemory → Type 0) → IsClosed P → IsClosed Q → (event : HistoryEvent)
     → ((m n : UnitMemory) → P m → seen unit m event ≡ Some n → Q n)
     → (u : Ways) → IsAloneFor u event → Fits P u → Fits Q (ways_after unit u event)
-event_fits unit P Q closed_p closed_q (LoadRequest number address n) f u alone s =
-    cond_both _ _ _ (Fits Q) (λ t. requested_load_fits number address P Q closed_q (λ m p. f m _ p (rw t refl)) u s)
+event_fits unit P Q closed_p closed_q (LoadRequest number address n enables) f u alone s =
+    cond_both _ _ _ (Fits Q) (λ t. requested_load_fits number (reads_from address enables) P Q closed_q (λ m p. f m _ p (rw t refl)) u s)
     (λ e. fits_still P Q (λ m p. f m m p (rw e refl)) u s)
 event_fits unit P Q closed_p closed_q (LoadResponse number bytes) f u alone s =
     answered_load_fits unit number bytes.now P Q closed_p (λ m p g. f m _ p (then_some _ _ g)) u s alone
@@ -252,9 +254,10 @@ event_fits unit P Q closed_p closed_q (StoreResponse number) f u alone s =
 
 pub event_leads : (unit : UnitPlace) (event : HistoryEvent) (m n : UnitMemory) → seen unit m event ≡ Some n → (u : Ways)
     → Each (IsAsked u.moment) u.loads → Each (IsPairBy u.moment) u.pairs → LeadsTo u m → LeadsTo (ways_after unit u event) n
-event_leads unit (LoadRequest number address k) m n h u asked by o =
+event_leads unit (LoadRequest number address k enables) m n h u asked by o =
     cond_both _ _ _ (λ v. LeadsTo v n)
-    (λ t. subst (LeadsTo (ways_with_load number address u)) (same_Some _ n (rw t at h)) (requested_load_leads number address m u by o))
+    (λ t. subst (LeadsTo (ways_with_load number (reads_from address enables) u)) (same_Some _ n (rw t at h))
+    (requested_load_leads number (reads_from address enables) m u by o))
     (λ e. subst (LeadsTo u) (same_Some m n (rw e at h)) o)
 event_leads unit (LoadResponse number bytes) m n h u asked by o = grind (arith, some_if, answered_load_leads, asked)
 event_leads unit (StoreRequest number address bytes enables) m n h u asked by o =

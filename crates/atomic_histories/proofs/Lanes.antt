@@ -7,7 +7,8 @@ use Rattle.std.proofs.lemmas.Option.{same_Some}
 use Rattle.memory_histories.specs.declared.events.HistoryEvent.{HistoryEvent}
 use Rattle.memory_histories.specs.declared.events.HistoryEvent.TheVariants.{StoreRequest}
 use Rattle.atomic_histories.specs.declared.unit.UnitPlace.{UnitPlace}
-use Rattle.atomic_histories.specs.Words.{at_unit, at_lane, stored_byte, byte_for, written, is_as_it_stood, is_word_of}
+use Rattle.atomic_histories.specs.declared.unit.LoadAddress.{LoadAddress}
+use Rattle.atomic_histories.specs.Words.{at_unit, at_lane, stored_byte, read_byte, written, is_as_it_stood, is_word_of}
 use Rattle.atomic_histories.specs.Law.{UnitMemory, HiddenStep, MayBe, starts, steps, sees, with_load, with_store, seen}
 use Rattle.atomic_histories.specs.Stands.{Each}
 use Rattle.atomic_histories.specs.May.{lane_of}
@@ -23,21 +24,21 @@ Word = List (Option ℕ)
 pub none_asked : (x : Option ℕ) → is_as_it_stood x None ≡ true
 none_asked x0 = grind arith
 
-pub word_lane : (first : ℕ) (w : Word) (a : ℕ) (bs : List ℕ) (j : ℕ) → is_word_of first w a bs ≡ true
-    → is_as_it_stood (lane_of j w) (byte_for a bs (first + j)) ≡ true
+pub word_lane : (first : ℕ) (w : Word) (a : LoadAddress) (bs : List ℕ) (j : ℕ) → is_word_of first w a bs ≡ true
+    → is_as_it_stood (lane_of j w) (read_byte a bs (first + j)) ≡ true
 unfolding is_word_of
 word_lane first [] a bs j h = refl
 word_lane first (x ∷ w) a bs zero h = grind arith
 word_lane first (x ∷ w) a bs (suc j) h =
-    subst (λ p. is_as_it_stood (lane_of j w) (byte_for a bs p) ≡ true) (omega arith) (word_lane (first + 1) w a bs j (and_parts _ _ h).1)
+    subst (λ p. is_as_it_stood (lane_of j w) (read_byte a bs p) ≡ true) (omega arith) (word_lane (first + 1) w a bs j (and_parts _ _ h).1)
 
-pub lane_word : (first : ℕ) (w : Word) (a : ℕ) (bs : List ℕ)
-    → ((j : ℕ) → is_as_it_stood (lane_of j w) (byte_for a bs (first + j)) ≡ true) → is_word_of first w a bs ≡ true
+pub lane_word : (first : ℕ) (w : Word) (a : LoadAddress) (bs : List ℕ)
+    → ((j : ℕ) → is_as_it_stood (lane_of j w) (read_byte a bs (first + j)) ≡ true) → is_word_of first w a bs ≡ true
 unfolding is_word_of
 lane_word first [] a bs h = refl
 lane_word first (x ∷ w) a bs h =
-    and_from _ _ (subst (λ p. is_as_it_stood x (byte_for a bs p) ≡ true) (omega arith) (h 0))
-    (lane_word (first + 1) w a bs (λ j. subst (λ p. is_as_it_stood (lane_of j w) (byte_for a bs p) ≡ true) (omega arith) (h (suc j))))
+    and_from _ _ (subst (λ p. is_as_it_stood x (read_byte a bs p) ≡ true) (omega arith) (h 0))
+    (lane_word (first + 1) w a bs (λ j. subst (λ p. is_as_it_stood (lane_of j w) (read_byte a bs p) ≡ true) (omega arith) (h (suc j))))
 
 -- What holds of each byte of a word. ----
 
@@ -97,7 +98,8 @@ module _ (P : ℕ → ℕ → Type 0) where
         loads = each_replace (λ x. HasGot x.got) before l _ after (λ p. h.word) each;
       })
 
-  holds_requested : (m : UnitMemory) (number address : ℕ) → (b : Bool) → Holds m → Holds (if b then with_load number address m else m)
+  holds_requested : (m : UnitMemory) (number : ℕ) (address : LoadAddress) → (b : Bool) → Holds m
+      → Holds (if b then with_load number address m else m)
   holds_requested m number address false h = h
   holds_requested m number address true h = record {
     word = h.word;

@@ -13,11 +13,12 @@ use Rattle.std.proofs.lemmas.Option.{slice_get_past, same_Some}
 use Rattle.memory_histories.specs.declared.events.HistoryEvent.{HistoryEvent}
 use Rattle.memory_histories.specs.declared.events.HistoryEvent.TheVariants.{LoadRequest, LoadResponse, StoreRequest, StoreResponse}
 use Rattle.memory_histories.specs.declared.events.Rest.{Rest}
-use Rattle.memory_histories.specs.Regular.{is_inside, load_request_fault, store_request_fault, store_response_fault}
+use Rattle.memory_histories.specs.Regular.{is_inside, request_fault, store_response_fault}
 use Rattle.atomic_histories.specs.declared.unit.OpenStore.{OpenStore}
 use Rattle.atomic_histories.specs.declared.unit.Operation.{Operation}
 use Rattle.atomic_histories.specs.declared.unit.UnitPlace.{UnitPlace}
-use Rattle.atomic_histories.specs.Words.{at_unit, at_lane, stored_byte, is_at}
+use Rattle.atomic_histories.specs.declared.unit.LoadAddress.{LoadAddress}
+use Rattle.atomic_histories.specs.Words.{at_unit, at_lane, stored_byte, reads_from, is_at}
 use Rattle.atomic_histories.specs.Operations.{Opened, none_opened, opened_after, opened_by, has_number, without_number, answer_fault}
 use Rattle.atomic_histories.specs.Operations.{form_fault}
 use Rattle.atomic_histories.specs.Law.{OpenLoad, UnitMemory, HiddenStep, MayBe, starts, steps, sees, untouched, is_got, is_store, is_load}
@@ -84,19 +85,15 @@ distinct_filtered number (x ∷ xs) d = grind (arith, distinct_filtered number x
 inside_filtered : (number : ℕ) (os : List Operation) → Each IsInside os → Each IsInside (without_number number os)
 inside_filtered number os a = each_filter IsInside _ os a
 
-pub load_allowed : (inside used : Bool) → load_request_fault inside used ≡ None → (inside ≡ true) × (used ≡ false)
-load_allowed x0 x1 h = grind arith
-
-pub store_allowed : (inside any used : Bool) → store_request_fault inside any used ≡ None
-    → (inside ≡ true) × ((any ≡ true) × (used ≡ false))
-store_allowed x0 x1 x2 h = grind arith
+pub is_allowed : (inside any used : Bool) → request_fault inside any used ≡ None → (inside ≡ true) × ((any ≡ true) × (used ≡ false))
+is_allowed x0 x1 x2 h = grind arith
 
 fit_push : (os : List Operation) (o : Operation) → AreFit os → IsInside o → list_any (has_number o.number) os ≡ false
     → AreFit (os ++ o ∷ [])
 fit_push os o a i n = grind (arith, distinct_push, each_append)
 
 fit_after : (o : Opened) (event : HistoryEvent) → IsFit o → form_fault o event ≡ None → IsFit (opened_after o event)
-fit_after o x1 a f = grind (arith, load_allowed, fit_push, distinct_filtered, inside_filtered, store_allowed)
+fit_after o x1 a f = grind (arith, is_allowed, fit_push, distinct_filtered, inside_filtered)
 
 pub none_is : {X : Type 0} (o : Option X) → is_none o ≡ true → o ≡ None
 none_is x0 h = grind arith
@@ -144,11 +141,14 @@ number_found number os o d e = found_each _ os o (alone_operation number os d) e
 
 -- What is open at a unit. ----
 
-abbrev pub load_key : OpenLoad → ℕ × ℕ
+abbrev pub load_key : OpenLoad → ℕ × LoadAddress
 load_key m = (m.number, m.address)
 
-abbrev pub key : Operation → ℕ × ℕ
-key o = (o.number, o.address)
+abbrev pub reads : Operation → LoadAddress
+reads o = reads_from o.address o.enables
+
+abbrev pub key : Operation → ℕ × LoadAddress
+key o = (o.number, reads o)
 
 -- whether an operation has a byte at the unit
 abbrev pub is_of : UnitPlace → Operation → Bool
@@ -169,7 +169,7 @@ keys_pass : (unit : UnitPlace) (ms : List OpenLoad) (os : List Operation) (o : O
     → map load_key ms ≡ map key (filter (is_of unit) (os ++ o ∷ []))
 keys_pass unit ms os o h f = grind (arith, filter-append, append-nil)
 
-abbrev other : ℕ → ℕ × ℕ → Bool
+abbrev other : ℕ → ℕ × LoadAddress → Bool
 other number p = not (p.0 == number)
 
 keys_left : (unit : UnitPlace) (number : ℕ) (ms : List OpenLoad) (os : List Operation) → map load_key ms ≡ map key (filter (is_of unit) os)
@@ -205,9 +205,9 @@ stores_more unit os o ss a = grind (arith, each_weaker, one_left)
 
 linked_after : (unit : UnitPlace) (m n : UnitMemory) (o : Opened) (event : HistoryEvent) → IsLinked unit m o → seen unit m event ≡ Some n
     → IsLinked unit n (opened_after o event)
-linked_after unit m n o (LoadRequest number address k) h e =
-    let x : Operation = record { number = number; address = address; length = k } in
-    let Linked : UnitMemory → Type 0 = λ y. IsLinked unit y (opened_after o (LoadRequest number address k)) in
+linked_after unit m n o (LoadRequest number address k enables) h e =
+    let x : Operation = record { number = number; address = address; length = k; enables = enables } in
+    let Linked : UnitMemory → Type 0 = λ y. IsLinked unit y (opened_after o (LoadRequest number address k enables)) in
     subst Linked (same_Some _ n e) (cond_both (is_at unit address k) _ m Linked
     (λ t. record {
       loads = grind (arith, keys_push);
@@ -217,7 +217,7 @@ linked_after unit m n o (LoadResponse number bytes) h e =
     subst (λ y. IsLinked unit y (opened_after o (LoadResponse number bytes))) (some_if _ _ n e).1
     (record { loads = keys_left unit number _ o.loads h.loads; stores = h.stores })
 linked_after unit m n o (StoreRequest number address bytes enables) h e =
-    let x : Operation = record { number = number; address = address; length = length bytes.now } in
+    let x : Operation = record { number = number; address = address; length = length bytes.now; enables = enables } in
     let Linked : UnitMemory → Type 0 = λ y. IsLinked unit y (opened_after o (StoreRequest number address bytes enables)) in
     let more = stores_more unit o.stores x m.stores h.stores in
     let stored = at_unit unit (stored_byte address bytes.now enables) in
@@ -263,7 +263,7 @@ no_load : (unit : UnitPlace) (number : ℕ) (os : List Operation) (o : Operation
     → is_of unit o ≡ false → (ms : List OpenLoad) → map load_key ms ≡ map key (filter (is_of unit) os)
     → list_any (is_load number) ms ≡ false
 no_load unit number os o d e f ms same =
-    let numbered : ℕ × ℕ → Bool = λ p. p.0 == number in
+    let numbered : ℕ × LoadAddress → Bool = λ p. p.0 == number in
     sym (list_any-map load_key numbered ms) ∙ (ap (list_any numbered) same ∙ (list_any-map key numbered _
     ∙ (list_any-filter (is_of unit) _ os ∙ none_each (λ x. is_of unit x && has_number number x) os
     (each_weaker _ (λ x. (is_of unit x && has_number number x) ≡ true → ⊥)
@@ -318,7 +318,7 @@ then_some x0 x h = grind arith
 pub passes : (size k : ℕ) (m : UnitMemory) (o : Opened) (event : HistoryEvent) → 1 ≤ size → IsFit o → IsLinked (unit_at size k) m o
     → form_fault o event ≡ None
     → is_among size (covered o event) k ≡ false → seen (unit_at size k) m event ≡ Some m
-passes size k m o (LoadRequest number address n) pos fit link f out = grind (arith, not_at, inside_end, load_allowed)
+passes size k m o (LoadRequest number address n enables) pos fit link f out = grind (arith, not_at, inside_end, is_allowed)
 passes size k m o (LoadResponse number bytes) pos fit link f out =
     let unit = unit_at size k in
     let r = open_load _ _ f in
@@ -332,7 +332,7 @@ passes size k m o (LoadResponse number bytes) pos fit link f out =
     ∙ ap (λ ls. Some (record { word = m.word; stores = m.stores; loads = ls })) q.1
 passes size k m o (StoreRequest number address bytes enables) pos fit link f out =
     let unit = unit_at size k in
-    let no = not_at size address _ k pos (inside_end address _ (store_allowed _ _ _ f).0) out in
+    let no = not_at size address _ k pos (inside_end address _ (is_allowed _ _ _ f).0) out in
     cond_both (list_any is_some (at_unit unit (stored_byte address bytes.now enables))) _ _ (λ n. Some n ≡ Some m)
     (λ t. cc (any_lane unit address bytes.now enables (range_with_len 0 8) t)) (λ n. refl)
 passes size k m o (StoreResponse number) pos fit link f out =
@@ -364,7 +364,7 @@ alone_unmapped f p (x ∷ xs) a = grind (arith, alone_unmapped f p xs a.1, list_
 
 module _ (unit : UnitPlace) (number : ℕ) (m : UnitMemory) (opened : Opened) (link : IsLinked unit m opened)
     (distinct : AreDistinct opened.loads) (o : Operation) (found : find (has_number number) opened.loads ≡ Some o) where
-  is_numbered : ℕ × ℕ → Bool
+  is_numbered : ℕ × LoadAddress → Bool
   is_numbered p = p.0 == number
 
   pub alone : IsAlone (is_load number) m.loads
@@ -375,15 +375,15 @@ module _ (unit : UnitPlace) (number : ℕ) (m : UnitMemory) (opened : Opened) (l
       (alone_filtered (has_number number) (is_of unit) opened.loads (alone_operation number opened.loads distinct))))
 
   -- each has the address of the operation
-  pub has_address : Each (λ l. is_load number l ≡ true → l.address ≡ o.address) m.loads
+  pub has_address : Each (λ l. is_load number l ≡ true → l.address ≡ reads o) m.loads
   unfolding is_numbered
   has_address =
-      each_unmap load_key (λ p. is_numbered p ≡ true → p.1 ≡ o.address) _
-      (subst (Each (λ p. is_numbered p ≡ true → p.1 ≡ o.address)) (sym link.loads)
-      (each_map key (λ p. is_numbered p ≡ true → p.1 ≡ o.address) _
-      (each_filter (λ x. has_number number x ≡ true → x.address ≡ o.address) _ opened.loads
-      (each_weaker (λ x. has_number number x ≡ true → x ≡ o) (λ x. has_number number x ≡ true → x.address ≡ o.address)
-      (λ x f t. ap (λ y. y.address) (f t)) opened.loads
+      each_unmap load_key (λ p. is_numbered p ≡ true → p.1 ≡ reads o) _
+      (subst (Each (λ p. is_numbered p ≡ true → p.1 ≡ reads o)) (sym link.loads)
+      (each_map key (λ p. is_numbered p ≡ true → p.1 ≡ reads o) _
+      (each_filter (λ x. has_number number x ≡ true → reads x ≡ reads o) _ opened.loads
+      (each_weaker (λ x. has_number number x ≡ true → x ≡ o) (λ x. has_number number x ≡ true → reads x ≡ reads o)
+      (λ x f t. ap reads (f t)) opened.loads
       (number_found number opened.loads o distinct found)))))
 
   -- there is one if the operation has a byte at the unit

@@ -1,5 +1,5 @@
 -- What an open load may return is what the answers have that would be taken now.
-use Rattle.atomic_histories.proofs.Links.{fit_by, IsAlone, AreDistinct, is_of}
+use Rattle.atomic_histories.proofs.Links.{fit_by, IsAlone, AreDistinct, is_of, reads}
 use Rattle.atomic_histories.proofs.Links.{linked, then_some, each_none, alone, has_address, is_there, HaveGot, shown_word, the_load}
 use Rattle.atomic_histories.proofs.Links.{got_between}
 use Rattle.std.proofs.Common.{[], ◌≡◌, ℕ, ◌+◌, ◌/◌, ◌<◌, ◌≤◌, ◌↔◌, Bool, true, false, ◌||◌, ◌==◌, List}
@@ -11,13 +11,14 @@ use Rattle.memory_histories.specs.declared.events.HistoryEvent.{HistoryEvent}
 use Rattle.memory_histories.specs.declared.events.Rest.{Rest}
 use Rattle.atomic_histories.specs.declared.unit.Operation.{Operation}
 use Rattle.atomic_histories.specs.declared.unit.UnitPlace.{UnitPlace}
+use Rattle.atomic_histories.specs.declared.unit.LoadAddress.{LoadAddress}
 use Rattle.atomic_histories.specs.Operations.{opened_by, has_number, none_opened, answer_fault}
 use Rattle.atomic_histories.specs.Law.{OpenLoad, UnitMemory, MayBe, steps, untouched, unit_at, is_load, sees, done_load, is_got}
 use Rattle.atomic_histories.specs.Law.{may_answer_load, without_load, seen, is_formed, IsAtomicAt}
 use Rattle.atomic_histories.specs.Pasts.{got}
 use Rattle.atomic_histories.specs.Stands.{Each}
 use Rattle.atomic_histories.specs.Held.{is_lost}
-use Rattle.atomic_histories.specs.May.{lane_of, may_show, got_byte, MayGet, MayReturn, asks}
+use Rattle.atomic_histories.specs.May.{lane_of, may_show, has_got, got_byte, MayGet, MayReturn, asks, skips}
 use Rattle.atomic_histories.proofs.Lists.{one_elim, each_both, one_any, one_each}
 use Rattle.atomic_histories.proofs.Lists.{each_two, one_two, each_weaker, each_at, all_each, each_all, each_from_all}
 use Rattle.atomic_histories.proofs.Exact.{last_seen}
@@ -28,11 +29,12 @@ use Rattle.std.proofs.lemmas.List.Elements.{All-map}
 use Rattle.std.proofs.lemmas.List.FromFn.{get_or-map-range_with_len, length-map-range_with_len}
 use Rattle.std.proofs.lemmas.Option.{slice_get_within, slice_get_past, slice_get_read, get_or_from_slice_get}
 use Rattle.memory_histories.specs.declared.events.HistoryEvent.TheVariants.{LoadResponse, StoreRequest}
-use Rattle.atomic_histories.specs.Words.{first_byte, initial_byte, byte_for, stored_byte, is_as_it_stood, is_word_of}
+use Rattle.atomic_histories.specs.Words.{first_byte, initial_byte, byte_for, read_byte, stored_byte, is_as_it_stood, is_word_of}
 use Rattle.atomic_histories.specs.MayLaws.{IsByte, StoresBytes, IsOfLaw, MayAnswer, HasAnswer, HasAnswerFor, SetsAreOfAnswers}
 use Rattle.atomic_histories.specs.MayLaws.{SetIsOfAnswers, AreSameIn, HasAnswerIn, UnitsChooseAlone}
 use Rattle.atomic_histories.proofs.Verdict.{formed_last}
-use Rattle.atomic_histories.proofs.Lanes.{AreLanes, HasGot, Holds, Writes, holds, word_lane, lane_word, unit_lane}
+use Rattle.atomic_histories.proofs.Lanes.{AreLanes, HasGot, Holds, Writes, holds, word_lane, lane_word, unit_lane, none_asked}
+use Rattle.std.proofs.Math.Bool.{or-true}
 use Rattle.atomic_histories.proofs.Returns.{Word}
 
 -- As the answers that would be taken. ----
@@ -109,28 +111,44 @@ module _ (image : List ℕ) (rest : Rest) (history : List HistoryEvent) (unit : 
             (then_some (may_answer_load unit number answer.now h.0.loads) (without_load number h.0) may),
       )
 
-got_some : (unit : UnitPlace) (address : ℕ) (bytes : List ℕ) (g : Option Word) → is_got unit address bytes g ≡ true
+got_some : (unit : UnitPlace) (address : LoadAddress) (bytes : List ℕ) (g : Option Word) → is_got unit address bytes g ≡ true
     → (w : Word) × (g ≡ Some w) × (is_word_of unit.first w address bytes ≡ true)
 got_some unit address bytes x3 h = grind arith
 
 -- a word that is an answer's in a unit is another's that has the same bytes there
-same_word : (unit : UnitPlace) (w : Word) (a : ℕ) (bs cs : List ℕ) → AreLanes (IsOf unit) w
-    → ((j : ℕ) → j < unit.size → byte_for a bs (unit.first + j) ≡ byte_for a cs (unit.first + j))
+same_word : (unit : UnitPlace) (w : Word) (a : LoadAddress) (bs cs : List ℕ) → AreLanes (IsOf unit) w
+    → ((j : ℕ) → j < unit.size → read_byte a bs (unit.first + j) ≡ read_byte a cs (unit.first + j))
     → is_word_of unit.first w a bs ≡ true → is_word_of unit.first w a cs ≡ true
 same_word unit w a bs cs lanes same h = grind (arith, lane_word, word_lane)
 
 -- a load that may be answered so may be answered with the same bytes in the unit
-same_lets : (unit : UnitPlace) (number a : ℕ) (bs cs : List ℕ)
-    → ((j : ℕ) → j < unit.size → byte_for a bs (unit.first + j) ≡ byte_for a cs (unit.first + j))
+same_lets : (unit : UnitPlace) (number : ℕ) (a : LoadAddress) (bs cs : List ℕ)
+    → ((j : ℕ) → j < unit.size → read_byte a bs (unit.first + j) ≡ read_byte a cs (unit.first + j))
     → (l : OpenLoad) → (is_load number l ≡ true → l.address ≡ a) → HasGot (IsOf unit) l.got → lets unit number bs l ≡ true
     → lets unit number cs l ≡ true
 same_lets unit number a bs cs same l at lanes h = grind (arith, or_right, HasGot, same_word)
 
 -- Places. ----
 
-same_for : (size k address : ℕ) (bs cs : List ℕ) → AreSameIn size k address bs cs → (j : ℕ) → j < size
+-- a byte that isn't enabled isn't read, and one that is is the answer's
+read_skipped : (o : Operation) (bs : List ℕ) (a : ℕ) → skips (Some o) a ≡ true → read_byte (reads o) bs a ≡ None
+read_skipped o bs a h = grind arith
+
+read_asked : (o : Operation) (bs : List ℕ) (a : ℕ) → skips (Some o) a ≡ false → read_byte (reads o) bs a ≡ byte_for o.address bs a
+read_asked o bs a h = grind arith
+
+same_bytes : (size k address : ℕ) (bs cs : List ℕ) → AreSameIn size k address bs cs → (j : ℕ) → j < size
     → byte_for address bs (k * size + j) ≡ byte_for address cs (k * size + j)
-same_for size k address bs cs same j l = grind (arith, lt-leb, div-mul-add, le-leb)
+same_bytes size k address bs cs same j l = grind (arith, lt-leb, div-mul-add, le-leb)
+
+same_for : (size k : ℕ) (o : Operation) (bs cs : List ℕ) → AreSameIn size k o.address bs cs → (j : ℕ) → j < size
+    → read_byte (reads o) bs (k * size + j) ≡ read_byte (reads o) cs (k * size + j)
+same_for size k o bs cs same j l =
+    let at = k * size + j in
+    elim (cases_Bool (skips (Some o) at)) [
+      | inl t ↦ read_skipped o bs at t ∙ sym (read_skipped o cs at t)
+      | inr f ↦ read_asked o bs at f ∙ (same_bytes size k o.address bs cs same j l ∙ sym (read_asked o cs at f))
+    ]
 
 pub byte_inside : (a : ℕ) (bs : List ℕ) (i : ℕ) → byte_for a bs (a + i) ≡ slice_get bs i
 byte_inside a bs i = grind arith
@@ -174,7 +192,7 @@ module _ (lost : List ℕ) (image : List ℕ) (rest : Rest) (size : ℕ) (histor
       (each_weaker StoresBytes (Writes (IsOf (unit k)) (unit k)) (writes_bytes (unit k)) history
       (each_from_all StoresBytes history law.stored_bytes))
 
-  addresses : (k : ℕ) (m : UnitMemory) → Comes k m → Each (λ l. is_load number l ≡ true → l.address ≡ o.address) m.loads
+  addresses : (k : ℕ) (m : UnitMemory) → Comes k m → Each (λ l. is_load number l ≡ true → l.address ≡ reads o) m.loads
   addresses k m r = has_address _ number m _ (linked image rest (unit k) r) distinct o found
 
   is_alone : (k : ℕ) (m : UnitMemory) → Comes k m → IsAlone (is_load number) m.loads
@@ -205,14 +223,14 @@ module _ (lost : List ℕ) (image : List ℕ) (rest : Rest) (size : ℕ) (histor
   moments_same k answer other same h =
       let r = lets_from image rest history _ number other h in
       let m : UnitMemory = r.0 in
-      let Known : OpenLoad → Type 0 = λ l. (is_load number l ≡ true → l.address ≡ o.address) × HasGot _ l.got in
+      let Known : OpenLoad → Type 0 = λ l. (is_load number l ≡ true → l.address ≡ reads o) × HasGot _ l.got in
       let known : Each Known _ = grind (arith, each_both, HasGot, addresses, holds_at) in
       from_lets image rest history _ number answer (
         m,
         r.1,
         each_two Known (λ l. lets (unit k) number other.now l ≡ true) (λ l. lets (unit k) number answer.now l ≡ true)
-            (λ l q p. same_lets _ number o.address other.now answer.now
-            (λ j w. sym (same_for size k o.address answer.now other.now same j w)) l q.0 q.1 p) _ known r.2,
+            (λ l q p. same_lets _ number (reads o) other.now answer.now
+            (λ j w. sym (same_for size k o answer.now other.now same j w)) l q.0 q.1 p) _ known r.2,
       )
 
   pub units_alone : (answer : Bor (List ℕ)) → MayAnswer lost image rest size history number answer
@@ -222,18 +240,26 @@ module _ (lost : List ℕ) (image : List ℕ) (rest : Rest) (size : ℕ) (histor
 
   -- What an answer has may be returned. ----
 
-  load_gets : (k j b : ℕ) (answer : List ℕ) → byte_for o.address answer (k * size + j) ≡ Some b → (l : OpenLoad)
-      → is_load number l ≡ true → lets (unit k) number answer l ≡ true → l.address ≡ o.address → got_byte number j b l ≡ true
-  load_gets k j b answer e l t h at = grind (arith, got_some, word_lane, and_from, shows_stood)
+  load_gets : (k j b : ℕ) (answer : List ℕ) → read_byte (reads o) answer (k * size + j) ≡ Some b → (l : OpenLoad)
+      → is_load number l ≡ true → lets (unit k) number answer l ≡ true → l.address ≡ reads o → got_byte number j b l ≡ true
+  load_gets k j b answer e l t h at =
+      let got_one = got_some (unit k) l.address answer l.got (rw t at h) in
+      let here : is_as_it_stood (lane_of j got_one.0) (read_byte l.address answer (k * size + j)) ≡ true =
+      word_lane (k * size) got_one.0 l.address answer j got_one.2 in
+      let read : is_as_it_stood (lane_of j got_one.0) (read_byte (reads o) answer (k * size + j)) ≡ true =
+      subst (λ a. is_as_it_stood (lane_of j got_one.0) (read_byte a answer (k * size + j)) ≡ true) at here in
+      let stood : is_as_it_stood (lane_of j got_one.0) (Some b) ≡ true =
+      subst (λ x. is_as_it_stood (lane_of j got_one.0) x ≡ true) e read in
+      and_from _ _ t (subst (λ y. has_got j b y ≡ true) (sym got_one.1) (shows_stood _ b stood))
 
-  gets_at : (k j b : ℕ) (answer : Bor (List ℕ)) → byte_for o.address answer.now (k * size + j) ≡ Some b → is_of (unit k) o ≡ true
+  gets_at : (k j b : ℕ) (answer : Bor (List ℕ)) → read_byte (reads o) answer.now (k * size + j) ≡ Some b → is_of (unit k) o ≡ true
       → IsAtomicAt image rest (unit k) (more answer) → MayGet image rest history (unit k) number j b
   gets_at k j b answer e there h =
       let r = lets_from image rest history _ number answer h in
       let m : UnitMemory = r.0 in
       let one =
       is_there _ number m _ (linked image rest (unit k) r.1) distinct o found there in
-      let At : OpenLoad → Type 0 = λ l. (is_load number l ≡ true → l.address ≡ o.address) × (lets (unit k) number answer.now l ≡ true) in (
+      let At : OpenLoad → Type 0 = λ l. (is_load number l ≡ true → l.address ≡ reads o) × (lets (unit k) number answer.now l ≡ true) in (
         m,
         r.1,
         one_any _ _ (one_two (λ l. is_load number l ≡ true) At (λ l. got_byte number j b l ≡ true)
@@ -249,9 +275,15 @@ module _ (lost : List ℕ) (image : List ℕ) (rest : Rest) (size : ℕ) (histor
       let place = div-add-mod' at size in
       let byte =
       ap (byte_for o.address answer.now) place ∙ (byte_inside o.address answer.now i ∙ e) in
-      elim (cases_Bool _) [
-        | inl t ↦ inl t
-        | inr f ↦ grind (arith, gets_at, touches)
+      elim (cases_Bool (skips (Some o) at)) [
+        | inl skipped ↦ inl (rw found skipped)
+        | inr enabled ↦
+            let read : read_byte (reads o) answer.now (q * size + at % size) ≡ Some b =
+            read_asked o answer.now _ (subst (λ x. skips (Some o) x ≡ false) (sym place) enabled) ∙ byte in
+            elim (cases_Bool (is_lost q lost)) [
+              | inl t ↦ inr (inl t)
+              | inr f ↦ grind (arith, gets_at, touches)
+            ]
       ]
 
   -- What may be returned an answer has. ----
@@ -303,16 +335,22 @@ module _ (lost : List ℕ) (image : List ℕ) (rest : Rest) (size : ℕ) (histor
   abbrev Choice : ℕ → ℕ → ℕ → Type 0
   Choice at b k =
       (w : Word) × AreLanes (IsOf (unit k)) w × (is_lost k lost ≡ false → IsGot k w)
-      × (k ≡ at / size → may_show (lane_of (at % size) w) b ≡ true)
+      × (k ≡ at / size → (skips (Some o) at || may_show (lane_of (at % size) w) b) ≡ true)
 
   lost_one : (at b k : ℕ) → is_lost k lost ≡ true → Choice at b k
-  lost_one at b k t = grind arith
+  lost_one at b k t = ([], no_lanes _, λ f. cc (sym t ∙ f), λ e. ap (λ y. skips (Some o) at || may_show y b) (no_lane (at % size)) ∙ or-true (skips (Some o) at))
 
   choose : (at b : ℕ) → MayReturn lost image rest size history number at b → (k : ℕ) → Choice at b k
   choose at b may k = elim (cases_eq k (at / size)) [
     | inl same ↦ subst (Choice at b) (sym same) (elim may [
-      | inl t ↦ lost_one at b _ t
-      | inr g ↦ let s = shown_at _ _ b g.1 in (s.0.0, s.0.1, λ f. s.0.2, λ e. s.1)
+      | inl skipped ↦ elim (cases_Bool (is_lost (at / size) lost)) [
+        | inl t ↦ lost_one at b _ t
+        | inr f ↦ let s = some_word _ (law.atomic.moments _ f) in (s.0, s.1, λ x. s.2, λ e. rw (rw found at skipped) refl)
+      ]
+      | inr asked ↦ elim asked [
+        | inl t ↦ lost_one at b _ t
+        | inr g ↦ let s = shown_at _ _ b g.1 in (s.0.0, s.0.1, λ f. s.0.2, λ e. rw s.1 (or-true (skips (Some o) at)))
+      ]
     ])
     | inr other ↦ elim (cases_Bool _) [
       | inl t ↦ lost_one at b k t
@@ -356,25 +394,34 @@ module _ (lost : List ℕ) (image : List ℕ) (rest : Rest) (size : ℕ) (histor
     byte_there k j l = grind (arith, chosen, mod-mul-add, div-mul-add)
 
     -- a byte of the answer is the word's that was chosen for its unit
-    agrees : (k j c x : ℕ) → j < size → lane_of j (chosen k).0 ≡ Some c → o.address + x ≡ k * size + j → (c == byte_at x) ≡ true
-    agrees k j c x l e place = elim (cases_Bool _) [
+    agrees : (k j c x : ℕ) → j < size → lane_of j (chosen k).0 ≡ Some c → o.address + x ≡ k * size + j
+        → skips (Some o) (k * size + j) ≡ false → (c == byte_at x) ≡ true
+    agrees k j c x l e place enabled = elim (cases_Bool _) [
       | inl t ↦
           let same = eqb-true x i t in
           let at = ap (λ y. o.address + y) (sym same) ∙ place in
           let unit_ = sym (cc (at, div-mul-add k size j l)) in
           let lane = ap (λ y. y % size) at ∙ mod-mul-add k size j l in
-          let shows = (chosen k).3 unit_ in
+          let here : skips (Some o) (o.address + i) ≡ false = subst (λ y. skips (Some o) y ≡ false) (sym at) enabled in
+          let shows : may_show (lane_of ((o.address + i) % size) (chosen k).0) b ≡ true = (rw here at ((chosen k).3 unit_)) in
           let it =
           subst (λ y. may_show y b ≡ true) e (rw lane at shows) in
           rw t it
       | inr f ↦ grind (arith, byte_there, eq-eqb)
     ]
 
-    stands : (k j : ℕ) (y : Option ℕ) → lane_of j (chosen k).0 ≡ y
+    stands_asked : (k j : ℕ) (y : Option ℕ) → lane_of j (chosen k).0 ≡ y → skips (Some o) (k * size + j) ≡ false
         → is_as_it_stood (lane_of j (chosen k).0) (byte_for o.address answer (k * size + j)) ≡ true
-    stands k j x2 e = grind (arith, lt-leb, slice_get_past, is_long, le-leb, at_place, agrees, chosen)
+    stands_asked k j x2 e f = grind (arith, lt-leb, slice_get_past, is_long, le-leb, at_place, agrees, chosen)
 
-    load_lets : (k : ℕ) (l : OpenLoad) → (is_load number l ≡ true → l.address ≡ o.address)
+    stands : (k j : ℕ) (y : Option ℕ) → lane_of j (chosen k).0 ≡ y
+        → is_as_it_stood (lane_of j (chosen k).0) (read_byte (reads o) answer (k * size + j)) ≡ true
+    stands k j y e = elim (cases_Bool (skips (Some o) (k * size + j))) [
+      | inl t ↦ rw (read_skipped o answer _ t) (none_asked _)
+      | inr f ↦ rw (read_asked o answer _ f) (stands_asked k j y e f)
+    ]
+
+    load_lets : (k : ℕ) (l : OpenLoad) → (is_load number l ≡ true → l.address ≡ reads o)
         → (is_load number l ≡ true → l.got ≡ Some (chosen k).0) → lets (unit k) number answer l ≡ true
     load_lets k l at got = grind (arith, lane_word, chosen, stands, or_right)
 
@@ -385,7 +432,7 @@ module _ (lost : List ℕ) (image : List ℕ) (rest : Rest) (size : ℕ) (histor
         from_lets image rest history _ number given (
           m,
           r.1,
-          each_two (λ l. is_load number l ≡ true → l.address ≡ o.address) (λ l. is_load number l ≡ true → l.got ≡ Some (chosen k).0)
+          each_two (λ l. is_load number l ≡ true → l.address ≡ reads o) (λ l. is_load number l ≡ true → l.got ≡ Some (chosen k).0)
               (λ l. lets (unit k) number answer l ≡ true) (load_lets k) _ (addresses k m r.1) r.2,
         )
 

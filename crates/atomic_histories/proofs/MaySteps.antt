@@ -1,6 +1,6 @@
 -- Steps towards what an open load may return: the sets of its bytes one after the other, and why there are none.
 use Rattle.std.proofs.Common.{◌≡◌, ℕ, zero, suc, ◌+◌, ◌-◌, ◌/◌, ◌%◌, ◌<◌, List, [], ◌∷◌, ◌++◌, length, Option, None, refl, ◌∙◌, arith, Some}
-use Rattle.std.proofs.Common.{false}
+use Rattle.std.proofs.Common.{Bool, true, false, ◌||◌, if◌then◌else◌}
 use Rattle.std.specs.List.{find}
 use Rattle.std.proofs.lemmas.Bool.{lt-ltb}
 use Rattle.memory_histories.specs.declared.sets.ByteSet.{ByteSet}
@@ -8,6 +8,7 @@ use Rattle.memory_histories.specs.declared.events.Rest.{Rest}
 use Rattle.memory_histories.specs.Sets.{no_bytes, all_bytes}
 use Rattle.memory_histories.proofs.ByteSets.{has-no_bytes, has-all_bytes}
 use Rattle.atomic_histories.specs.declared.unit.UnitPlace.{UnitPlace}
+use Rattle.atomic_histories.specs.declared.unit.Operation.{Operation}
 use Rattle.atomic_histories.specs.declared.unit.WatchedLoad.{WatchedLoad}
 use Rattle.atomic_histories.specs.declared.stretches.Stretch.{Stretch}
 use Rattle.atomic_histories.specs.declared.pairs.FollowedPair.{FollowedPair}
@@ -18,7 +19,8 @@ use Rattle.atomic_histories.specs.declared.search.Stop.{Stop}
 use Rattle.atomic_histories.specs.Followed.{Ways, first_ways, is_under}
 use Rattle.atomic_histories.specs.Held.{Held}
 use Rattle.atomic_histories.specs.Judge.{bytes_of, fault_of, kept_or}
-use Rattle.atomic_histories.specs.May.{IsSet, is_shown, reached, may_get, may_get_at, address_of, AreSetsFrom, is_reach_wide, is_wide_for}
+use Rattle.atomic_histories.specs.May.{IsSet, is_shown, reached, may_get, may_get_at, may_return_at, skips, address_of, AreSetsFrom}
+use Rattle.atomic_histories.specs.May.{is_reach_wide, is_wide_for}
 use Rattle.atomic_histories.specs.May.{is_wide_at, AreNarrow, IsWideByte, IsWideLoad, IsNoVerdict}
 use Rattle.atomic_histories.specs.Shown.{shown_all, StopIs}
 use Rattle.std.proofs.Math.Bool.{and-false}
@@ -54,6 +56,15 @@ module _ (number k : ℕ) (ss : List Stretch) where
   known_set [] loads moment load set h f s = absurd (h refl)
   known_set (p ∷ ps) loads moment load set h f s = grind arith
 
+-- and where a byte isn't enabled it may be any
+pub asked_is : (h : Held) (load : Option Operation) (number a : ℕ) (set : ByteSet) → IsSet (may_get_at h number a) set
+    → IsSet (may_return_at h load number a) (if skips load a then all_bytes else set)
+asked_is h load number a set s = go (skips load a)
+  where
+    go : (c : Bool) → IsSet (λ b. c || may_get_at h number a b) (if c then all_bytes else set)
+    go true = λ b l. has-all_bytes b ∙ lt-ltb b 256 l
+    go false = s
+
 -- Few enough pairs where there are sets. ----
 
 pub untouched_narrow : (o : Option KeptUnit) (image : List ℕ) (rest : Rest) (unit : UnitPlace) (limit number : ℕ) → o ≡ None
@@ -76,17 +87,19 @@ pub narrow_more : (limit : ℕ) (h : Held) (number a n : ℕ) → AreNarrow limi
 narrow_more limit h number a n f g = λ i l. grind arith
 
 -- the set of the next byte
-sets_pushed : (h : Held) (number a from n : ℕ) (sets : List ByteSet) (set : ByteSet) → AreSetsFrom h number a from n sets
-    → IsSet (may_get_at h number (address_of a (from + n))) set → AreSetsFrom h number a from (suc n) (sets ++ set ∷ [])
-sets_pushed h number a from zero [] set r s = grind arith
-sets_pushed h number a from (suc n) (x ∷ xs) set r s =
+sets_pushed : (h : Held) (load : Option Operation) (number a from n : ℕ) (sets : List ByteSet) (set : ByteSet)
+    → AreSetsFrom h load number a from n sets
+    → IsSet (may_return_at h load number (address_of a (from + n))) set → AreSetsFrom h load number a from (suc n) (sets ++ set ∷ [])
+sets_pushed h load number a from zero [] set r s = grind arith
+sets_pushed h load number a from (suc n) (x ∷ xs) set r s =
     let next : from + suc n ≡ from + 1 + n = omega arith in
-    (r.0, sets_pushed h number a (from + 1) n xs set r.1 (rw next at s))
-sets_pushed h number a from _ _ set r s = absurd r
+    (r.0, sets_pushed h load number a (from + 1) n xs set r.1 (rw next at s))
+sets_pushed h load number a from _ _ set r s = absurd r
 
-pub one_set_more : (h : Held) (number a i : ℕ) (sets : List ByteSet) (set : ByteSet) → AreSetsFrom h number a 0 i sets
-    → IsSet (may_get_at h number (address_of a i)) set → AreSetsFrom h number a 0 (i + 1) (sets ++ set ∷ [])
-one_set_more h number a i sets set r s = grind (arith, sets_pushed)
+pub one_set_more : (h : Held) (load : Option Operation) (number a i : ℕ) (sets : List ByteSet) (set : ByteSet)
+    → AreSetsFrom h load number a 0 i sets
+    → IsSet (may_return_at h load number (address_of a i)) set → AreSetsFrom h load number a 0 (i + 1) (sets ++ set ∷ [])
+one_set_more h load number a i sets set r s = grind (arith, sets_pushed)
 
 -- No verdict. ----
 

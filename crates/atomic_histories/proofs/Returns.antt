@@ -6,6 +6,7 @@ use Rattle.std.proofs.Common.{[], ◌≡◌, ℕ, zero, suc, ◌+◌, ◌/◌, �
 use Rattle.std.proofs.Common.{is_some, ap₂, ◌∷◌, ◌++◌, map, filter, length, Option, Some, None, Result, Ok, Err, IfOk, slice_get, inl, inr}
 use Rattle.std.proofs.Common.{refl, sym, ap, ◌∙◌, subst, arith}
 use Rattle.std.specs.List.{list_any, find}
+use Rattle.std.proofs.Math.Bool.{or-true}
 use Rattle.std.proofs.lemmas.Bool.{cases_Bool, and_parts, and_from, or_cases, or_right, or_left}
 use Rattle.std.proofs.lemmas.List.Folds.{list_any-append}
 use Rattle.memory_histories.specs.declared.events.HistoryEvent.{HistoryEvent}
@@ -23,7 +24,8 @@ use Rattle.atomic_histories.specs.Followed.{Pair, Ways, never, watched, way_on, 
 use Rattle.atomic_histories.specs.Stands.{Each, One, EachWay, OneWay, IsAsked, IsPairBy, MayHaveGot, IsWatched, AreWatched, IsOn, Leads}
 use Rattle.atomic_histories.specs.Stands.{now, later, StandsFor}
 use Rattle.atomic_histories.specs.Held.{Held, StandsBut}
-use Rattle.atomic_histories.specs.May.{lane_of, may_show, has_got, got_byte, MayGet, MayReturn, AreSetsOf, IsSetOf, asks, reached_in}
+use Rattle.atomic_histories.specs.May.{lane_of, may_show, has_got, got_byte, MayGet, MayReturnAsked, MayReturn, skips, may_return_at}
+use Rattle.atomic_histories.specs.May.{AreSetsOf, IsSetOf, asks, reached_in}
 use Rattle.atomic_histories.specs.May.{reached, shows_byte, is_shown, IsSet, may_get_at, address_of, AreSetsFrom, IsByteOf, HasSets}
 use Rattle.atomic_histories.proofs.Lists.{one_weaker, one_none, one_or, one_elim, each_both, find_one, one_any, one_each, one_filter}
 use Rattle.atomic_histories.proofs.Lists.{find_none}
@@ -326,7 +328,7 @@ unit_law image rest history unit u s number alone k b = go _ refl
 
 shown_law : (h : Held) (lost : List ℕ) (history : List HistoryEvent) → StandsBut h lost history → (number a b : ℕ) (o : Operation)
     → find (has_number number) (opened_by history).loads ≡ Some o
-    → (may_get_at h number a b ≡ true) ↔ MayReturn lost h.image h.rest h.size history number a b
+    → (may_get_at h number a b ≡ true) ↔ MayReturnAsked lost h.image h.rest h.size history number a b
 shown_law h lost history s number a b o open_ = elim (s.units (a / h.size)) [
   | inl p ↦ (λ t. inl p.0, λ r. rw p.1 refl)
   | inr p ↦
@@ -339,6 +341,15 @@ shown_law h lost history s number a b o open_ = elim (s.units (a / h.size)) [
       )
 ]
 
+returned_law : (h : Held) (lost : List ℕ) (history : List HistoryEvent) → StandsBut h lost history → (number a b : ℕ) (o : Operation)
+    → find (has_number number) (opened_by history).loads ≡ Some o
+    → (may_return_at h (Some o) number a b ≡ true) ↔ MayReturn lost h.image h.rest h.size history number a b
+returned_law h lost history s number a b o open_ =
+    let law = shown_law h lost history s number a b o open_ in (
+      λ t. elim (or_cases (skips (Some o) a) _ t) [ inl k ↦ inl (rw open_ k) | inr g ↦ inr (law.0 g) ],
+      λ r. elim r [ inl k ↦ rw (rw open_ at k) refl | inr g ↦ rw (law.1 g) (or-true (skips (Some o) a)) ],
+    )
+
 asks_some : (load : Option Operation) (a : ℕ) → asks load a ≡ true → (o : Operation) × (load ≡ Some o)
 asks_some x0 a h = grind arith
 
@@ -348,24 +359,31 @@ pub byte_law : {E : Type 0} (r : Result (Option ByteSet) E) (h : Held) (number a
     → IfOk r (IsSetOf lost h.image h.rest h.size history number a)
 byte_law (Err e) h number a p lost history s = tt
 byte_law (Ok None) h number a p lost history s = cc (s.opened, p)
-byte_law (Ok (Some set)) h number a p lost history s = grind (arith, asks_some, shown_law)
+byte_law (Ok (Some set)) h number a p lost history s =
+    let found = asks_some _ a p.0 in
+    let open_ : find _ (opened_by history).loads ≡ Some found.0 = ap (λ o. find (has_number number) o.loads) (sym s.opened) ∙ found.1 in (
+      ap (λ o. asks (find (has_number number) o.loads) a) (sym s.opened) ∙ p.0,
+      λ b l.
+          let same : has set b ≡ may_return_at h (Some found.0) number a b = p.1 b l ∙ ap (λ x. may_return_at h x number a b) found.1 in
+          let law = returned_law h lost history s number a b found.0 open_ in (λ t. law.0 (sym same ∙ t), λ m. same ∙ law.1 m),
+    )
 
-module _ (h : Held) (number a : ℕ) where
-  sets_at : (n from : ℕ) (sets : List ByteSet) → AreSetsFrom h number a from n sets
+module _ (h : Held) (load : Option Operation) (number a : ℕ) where
+  sets_at : (n from : ℕ) (sets : List ByteSet) → AreSetsFrom h load number a from n sets
       → (i : ℕ) (set : ByteSet) → slice_get sets i ≡ Some set
-      → (i < n) × IsSet (may_get_at h number (address_of a (from + i))) set
+      → (i < n) × IsSet (may_return_at h load number (address_of a (from + i))) set
   sets_at zero from [] r i set e = let x = e in cc
   sets_at (suc n) from (x ∷ xs) r zero set e = grind arith
   sets_at (suc n) from (x ∷ xs) r (suc i) set e = grind (arith, sets_at n _ xs r.1 i set e)
   sets_at _ from _ r i set e = absurd r
 
-  sets_length : (n from : ℕ) (sets : List ByteSet) → AreSetsFrom h number a from n sets → length sets ≡ n
+  sets_length : (n from : ℕ) (sets : List ByteSet) → AreSetsFrom h load number a from n sets → length sets ≡ n
   sets_length zero from [] r = refl
   sets_length (suc n) from (x ∷ xs) r = ap suc (sets_length n _ xs r.1)
   sets_length _ from _ r = absurd r
 
 shown_sets : (h : Held) (lost : List ℕ) (history : List HistoryEvent) → StandsBut h lost history → (number : ℕ) (o : Operation)
-    → find (has_number number) h.opened.loads ≡ Some o → (sets : List ByteSet) → AreSetsFrom h number o.address 0 o.length sets
+    → find (has_number number) h.opened.loads ≡ Some o → (sets : List ByteSet) → AreSetsFrom h (Some o) number o.address 0 o.length sets
     → AreSetsOf lost h.image h.rest h.size history number sets
 shown_sets h lost history s number o e sets r =
     let found : find _ (opened_by history).loads ≡ Some o = grind arith in
@@ -376,11 +394,11 @@ shown_sets h lost history s number o e sets r =
       open_ = found;
       length_ = grind (arith, sets_length);
       exact = λ i set get b l.
-          let q = sets_at h number o.address o.length 0 sets r i set get in
+          let q = sets_at h (Some o) number o.address o.length 0 sets r i set get in
           let inside : i < o.length = q.0 in
           let there : address_of o.address _ ≡ o.address + i = omega arith in
-          let same : has set b ≡ may_get_at h number _ b = q.1 b l ∙ ap (λ x. may_get_at h number x b) there in
-          let law = shown_law h lost history s number _ b o found in
+          let same : has set b ≡ may_return_at h (Some o) number _ b = q.1 b l ∙ ap (λ x. may_return_at h (Some o) number x b) there in
+          let law = returned_law h lost history s number _ b o found in
           (λ t. law.0 (sym same ∙ t), λ m. same ∙ law.1 m);
     }
 

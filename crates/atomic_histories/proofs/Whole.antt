@@ -124,7 +124,7 @@ IsNoAnswer event = Unit {0}
 pub way_left : (start : UnitMemory) (unit : UnitPlace) (history : List HistoryEvent) (event : HistoryEvent) → IsNoAnswer event
     → (u : Ways) → StandsFor start unit u history → has_way u ≡ true
     → has_way (ways_after unit u event) ≡ true
-way_left start unit history (LoadRequest number address n) a u s h = grind arith
+way_left start unit history (LoadRequest number address n enables) a u s h = grind arith
 way_left start unit history (LoadResponse number bytes) a u s h = absurd a
 way_left start unit history (StoreRequest number address bytes enables) a u s h =
     cond_both _ _ _ (λ v. has_way v ≡ true)
@@ -175,7 +175,7 @@ way_lost before after h = grind arith
 -- No way leads on where there is none. ----
 
 none_after : (unit : UnitPlace) (u : Ways) (event : HistoryEvent) → has_way u ≡ false → has_way (ways_after unit u event) ≡ false
-none_after unit u (LoadRequest number address n) h = grind arith
+none_after unit u (LoadRequest number address n enables) h = grind arith
 none_after unit u (LoadResponse number bytes) h = grind arith
 none_after unit u (StoreRequest number address bytes enables) h =
     cond_both _ _ _ (λ v. has_way v ≡ false)

@@ -7,6 +7,7 @@ use Rattle.std.specs.Borrow.{Bor}
 use Rattle.memory_histories.specs.declared.events.HistoryEvent.{HistoryEvent}
 use Rattle.memory_histories.specs.declared.events.HistoryEvent.TheVariants.{LoadRequest, LoadResponse, StoreRequest, StoreResponse}
 use Rattle.memory_histories.specs.declared.events.Rest.{Rest}
+use Rattle.memory_histories.specs.declared.events.TheConstants.{ALL_ENABLED}
 use Rattle.memory_histories.specs.declared.events.Rest.TheVariants.{Zeros, Unknown}
 use Rattle.atomic_histories.specs.declared.unit.UnitPlace.{UnitPlace}
 use Rattle.atomic_histories.specs.Words.{written, is_word_of}
@@ -88,7 +89,7 @@ bytes xs = record { ref_ptr = (0, 0); now = xs }
 
 -- a load of so many bytes at 4096 that is requested and answered
 abbrev load : ℕ → ℕ → List ℕ → List HistoryEvent
-load number length xs = LoadRequest number 4096 length ∷ LoadResponse number (bytes xs) ∷ []
+load number length xs = LoadRequest number 4096 length ALL_ENABLED ∷ LoadResponse number (bytes xs) ∷ []
 
 -- two stores of a word of two bytes that overlap
 abbrev two_stores : List HistoryEvent
@@ -149,8 +150,8 @@ unknown_each_time = unknown_passes _ refl
 pub an_open_load_binds : ¬
     (IsAtomicAt [] Zeros pair
     (StoreRequest 1 4096 (bytes (17 ∷ 17 ∷ [])) 3 ∷ StoreRequest 2 4096
-    (bytes (34 ∷ 34 ∷ [])) 3 ∷ StoreResponse 1 ∷ LoadRequest 1 4096 2 ∷ LoadResponse 1
-    (bytes (34 ∷ 34 ∷ [])) ∷ LoadRequest 2 4096 2 ∷ LoadResponse 2 (bytes (17 ∷ 17 ∷ [])) ∷ []))
+    (bytes (34 ∷ 34 ∷ [])) 3 ∷ StoreResponse 1 ∷ LoadRequest 1 4096 2 ALL_ENABLED ∷ LoadResponse 1
+    (bytes (34 ∷ 34 ∷ [])) ∷ LoadRequest 2 4096 2 ALL_ENABLED ∷ LoadResponse 2 (bytes (17 ∷ 17 ∷ [])) ∷ []))
 unfolding written is_word_of is_same_pair
 an_open_load_binds = stops
     _ refl

@@ -4,13 +4,14 @@ use Rattle.std.specs.Prelude.{ℕ, Bool, false, ◌&&◌, ◌||◌, not, ◌==�
 use Rattle.std.specs.List.{filter, list_all, list_any, range_with_len}
 use Rattle.atomic_histories.specs.declared.unit.OpenStore.{OpenStore}
 use Rattle.atomic_histories.specs.declared.unit.UnitPlace.{UnitPlace}
-use Rattle.atomic_histories.specs.Words.{byte_for, written, is_as_it_stood, is_word_of}
+use Rattle.atomic_histories.specs.declared.unit.LoadAddress.{LoadAddress}
+use Rattle.atomic_histories.specs.Words.{read_byte, written, is_as_it_stood, is_word_of}
 use Rattle.atomic_histories.specs.Law.{done_store, is_store, may_answer_store}
 
 -- an open load, and the words that it may have got beside the one of now: those that stood there since its request, the latest first
 pub record Watched : Type 0 where
   pub number : ℕ
-  pub address : ℕ
+  pub address : LoadAddress
   pub words : List (List (Option ℕ))
 
 pub record Branch : Type 0 where
@@ -51,10 +52,10 @@ abbrev pub may_come_in : ℕ → List (Option ℕ) → List OpenStore → Option
 may_come_in k word stores answer =
     is_as_it_stood (get_or word k None) answer || list_any (λ s. not s.is_done && gives (get_or s.bytes k None) answer) stores
 
--- whether the word may come to be one of which these are the bytes from an address on
-abbrev pub may_come : UnitPlace → ℕ → List ℕ → List (Option ℕ) → List OpenStore → Bool
+-- whether the word may come to be one of which these are the bytes that a load from there reads
+abbrev pub may_come : UnitPlace → LoadAddress → List ℕ → List (Option ℕ) → List OpenStore → Bool
 may_come unit address bytes word stores =
-    list_all (λ k. may_come_in k word stores (byte_for address bytes (unit.first + k))) (range_with_len 0 8)
+    list_all (λ k. may_come_in k word stores (read_byte address bytes (unit.first + k))) (range_with_len 0 8)
 
 abbrev pub has_effect : ℕ → Branch → Bool
 has_effect number e = may_answer_store number e.stores
@@ -67,7 +68,7 @@ abbrev pub branch_without_store : ℕ → Branch → Branch
 branch_without_store number e =
     record { word = e.word; stores = filter (λ s. not (is_store number s)) e.stores; loads = e.loads }
 
-abbrev pub branch_with_load : ℕ → ℕ → Branch → Branch
+abbrev pub branch_with_load : ℕ → LoadAddress → Branch → Branch
 branch_with_load number address e =
     record { word = e.word; stores = e.stores; loads = e.loads ++ record { number = number; address = address; words = [] } ∷ [] }
 

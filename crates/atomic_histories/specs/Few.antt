@@ -20,7 +20,7 @@ KeepsFew u = (words : List Past) × (length words ≤ MOST_WORDS) × Each (λ e.
 
 -- which is asked if the event is an answer
 abbrev pub IsFewFor : Ways → HistoryEvent → Type 0
-IsFewFor u (LoadRequest number address n) = Unit {0}
+IsFewFor u (LoadRequest number address n enables) = Unit {0}
 IsFewFor u (LoadResponse number bytes) = KeepsFew u
 IsFewFor u (StoreRequest number address bytes enables) = Unit {0}
 IsFewFor u (StoreResponse number) = KeepsFew u

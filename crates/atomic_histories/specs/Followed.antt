@@ -11,9 +11,10 @@ use Rattle.memory_histories.specs.declared.events.HistoryEvent.TheVariants.{Load
 use Rattle.memory_histories.specs.declared.events.Rest.{Rest}
 use Rattle.atomic_histories.specs.declared.unit.OpenStore.{OpenStore}
 use Rattle.atomic_histories.specs.declared.unit.UnitPlace.{UnitPlace}
+use Rattle.atomic_histories.specs.declared.unit.LoadAddress.{LoadAddress}
 use Rattle.atomic_histories.specs.declared.unit.WatchedLoad.{WatchedLoad}
 use Rattle.atomic_histories.specs.declared.search.TheConstants.{MOST_WORDS}
-use Rattle.atomic_histories.specs.Words.{at_unit, initial_byte, stored_byte, is_at, written, is_word_of}
+use Rattle.atomic_histories.specs.Words.{at_unit, initial_byte, stored_byte, reads_from, is_at, written, is_word_of}
 use Rattle.atomic_histories.specs.Law.{done_store, is_store, may_answer_store}
 use Rattle.atomic_histories.specs.Pasts.{Past, begins, Stood, merged, got, missed, oldest, cut_for, overwritten, seen_since}
 use Rattle.atomic_histories.specs.Branches.{Watched, Branch, may_come}
@@ -121,8 +122,8 @@ never = record { goal = λ e. false; hope = λ e. true }
 abbrev pub effect_aim : ℕ → Aim
 effect_aim number = record { goal = λ e. may_answer_store number e.stores; hope = λ e. true }
 
--- the word of now is one of which these are the bytes from an address on
-abbrev pub word_aim : UnitPlace → ℕ → List ℕ → Aim
+-- the word of now is one of which these are the bytes that a load from there reads
+abbrev pub word_aim : UnitPlace → LoadAddress → List ℕ → Aim
 word_aim unit address bytes = record {
   goal = λ e. is_word_of unit.first e.word address bytes;
   hope = λ e. may_come unit address bytes e.word e.stores;
@@ -175,8 +176,8 @@ needs_more limit loads moment aim out es =
 abbrev pub is_under : ℕ → WatchedLoad → Bool
 is_under number l = l.number == number
 
--- whether a load since a moment may have got what stood there, if its answer is these bytes from an address on
-abbrev pub is_answer : UnitPlace → ℕ → ℕ → List ℕ → Stood → Bool
+-- whether a load since a moment may have got what stood there, if its answer is these bytes
+abbrev pub is_answer : UnitPlace → LoadAddress → ℕ → List ℕ → Stood → Bool
 is_answer unit address since bytes s = nat_le since s.moment && is_word_of unit.first s.word address bytes
 
 abbrev pub pair_on : Pair → Option Past → Option Pair
@@ -227,7 +228,7 @@ pair_with_store number bytes e =
 abbrev pub pair_cut : Option ℕ → Pair → Pair
 pair_cut since e = record { word = e.word; stores = e.stores; past = cut_for since e.past }
 
-abbrev pub ways_with_load : ℕ → ℕ → Ways → Ways
+abbrev pub ways_with_load : ℕ → LoadAddress → Ways → Ways
 ways_with_load number address u = record {
   loads = u.loads ++ record { number = number; address = address; since = u.moment + 1 } ∷ [];
   moment = u.moment + 1;
@@ -263,7 +264,8 @@ ways_without_store number u es = record { loads = u.loads; moment = u.moment; pa
 
 -- the ways after an event: none if it is none of the law
 abbrev pub ways_after : UnitPlace → Ways → HistoryEvent → Ways
-ways_after unit u (LoadRequest number address n) = if is_at unit address n then ways_with_load number address u else u
+ways_after unit u (LoadRequest number address n enables) =
+    if is_at unit address n then ways_with_load number (reads_from address enables) u else u
 ways_after unit u (LoadResponse number bytes) =
     ways_without_load number u (answered_load unit bytes.now (find (is_under number) u.loads) u)
 ways_after unit u (StoreRequest number address bytes enables) =

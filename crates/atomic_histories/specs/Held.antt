@@ -42,7 +42,7 @@ bytes_of_open (Some o) = (o.address, o.length)
 
 -- those of the operation that an event requests or answers
 abbrev pub covered : Opened → HistoryEvent → ℕ × ℕ
-covered o (LoadRequest number address n) = (address, n)
+covered o (LoadRequest number address n enables) = (address, n)
 covered o (LoadResponse number bytes) = bytes_of_open (find (has_number number) o.loads)
 covered o (StoreRequest number address bytes enables) = (address, length bytes.now)
 covered o (StoreResponse number) = bytes_of_open (find (has_number number) o.stores)

@@ -10,7 +10,8 @@ use Rattle.memory_histories.specs.declared.events.HistoryFault.TheVariants.{Wron
 use Rattle.memory_histories.specs.declared.events.Rest.{Rest}
 use Rattle.atomic_histories.specs.declared.unit.OpenStore.{OpenStore}
 use Rattle.atomic_histories.specs.declared.unit.UnitPlace.{UnitPlace}
-use Rattle.atomic_histories.specs.Words.{at_unit, initial_byte, stored_byte, is_at, written, is_word_of}
+use Rattle.atomic_histories.specs.declared.unit.LoadAddress.{LoadAddress}
+use Rattle.atomic_histories.specs.Words.{at_unit, initial_byte, stored_byte, reads_from, is_at, written, is_word_of}
 use Rattle.atomic_histories.specs.declared.unit.Operation.{Operation}
 use Rattle.atomic_histories.specs.Operations.{Opened, none_opened, opened_after, opened_by, has_number, form_fault}
 
@@ -19,7 +20,7 @@ use Rattle.atomic_histories.specs.Operations.{Opened, none_opened, opened_after,
 -- an open load, and the word that it got once it has taken effect
 pub record OpenLoad : Type 0 where
   pub number : ℕ
-  pub address : ℕ
+  pub address : LoadAddress
   pub got : Option (List (Option ℕ))
 
 -- the word that stands in the unit, and the open operations that touch it. An open store has the bytes that it writes there, and
@@ -64,8 +65,8 @@ is_store number s = s.number == number
 abbrev pub is_load : ℕ → OpenLoad → Bool
 is_load number l = l.number == number
 
--- whether a load got a word of which these are the bytes
-abbrev pub is_got : UnitPlace → ℕ → List ℕ → Option (List (Option ℕ)) → Bool
+-- whether a load got a word of which these are the bytes that it reads
+abbrev pub is_got : UnitPlace → LoadAddress → List ℕ → Option (List (Option ℕ)) → Bool
 is_got unit address bytes None = false
 is_got unit address bytes (Some word) = is_word_of unit.first word address bytes
 
@@ -77,7 +78,7 @@ abbrev pub may_answer_store : ℕ → List OpenStore → Bool
 may_answer_store number stores = list_all (λ s. not (is_store number s) || s.is_done) stores
 
 -- a unit once an operation is requested that touches it
-abbrev pub with_load : ℕ → ℕ → UnitMemory → UnitMemory
+abbrev pub with_load : ℕ → LoadAddress → UnitMemory → UnitMemory
 with_load number address m =
     record { word = m.word; stores = m.stores; loads = m.loads ++ record { number = number; address = address; got = None } ∷ [] }
 
@@ -95,7 +96,8 @@ without_store number m = record { word = m.word; stores = filter (λ s. not (is_
 -- an event at the unit, which changes nothing there if its operation doesn't touch it, and can't come before the operation that it
 -- answers has taken effect
 abbrev pub seen : UnitPlace → UnitMemory → HistoryEvent → Option UnitMemory
-seen unit m (LoadRequest number address n) = Some (if is_at unit address n then with_load number address m else m)
+seen unit m (LoadRequest number address n enables) =
+    Some (if is_at unit address n then with_load number (reads_from address enables) m else m)
 seen unit m (LoadResponse number bytes) = if may_answer_load unit number bytes.now m.loads then Some (without_load number m) else None
 seen unit m (StoreRequest number address bytes enables) =
     let stored = at_unit unit (stored_byte address bytes.now enables) in Some

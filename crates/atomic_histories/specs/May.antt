@@ -1,7 +1,9 @@
 -- What an open load may return: of each byte for itself.
-use Rattle.std.specs.Prelude.{ℕ, zero, suc, ◌≡◌, ◌+◌, ◌*◌, ◌/◌, ◌%◌, ◌<◌, ◌⊎◌, ◌↔◌, min, Bool, true, false, ◌&&◌, ◌||◌, if◌then◌else◌, ◌==◌}
-use Rattle.std.specs.Prelude.{nat_lt, nat_le, List, [], ◌∷◌, ◌++◌, length, get_or, Option, Some, None, is_some, slice_get}
+use Rattle.std.specs.Prelude.{ℕ, zero, suc, ◌≡◌, ◌+◌, ◌-◌, ◌*◌, ◌/◌, ◌%◌, ◌<◌, ◌⊎◌, ◌↔◌, min, Bool, true, false, ◌&&◌, ◌||◌}
+use Rattle.std.specs.Prelude.{if◌then◌else◌, ◌==◌}
+use Rattle.std.specs.Prelude.{not, nat_lt, nat_le, List, [], ◌∷◌, ◌++◌, length, get_or, Option, Some, None, is_some, slice_get}
 use Rattle.std.specs.List.{list_any, find}
+use Rattle.std.specs.Int.{bit_at}
 use Rattle.memory_histories.specs.declared.events.HistoryEvent.{HistoryEvent}
 use Rattle.memory_histories.specs.declared.events.HistoryFault.TheVariants.{NotOpen}
 use Rattle.memory_histories.specs.declared.events.Rest.{Rest}
@@ -41,12 +43,22 @@ abbrev pub MayGet : List ℕ → Rest → List HistoryEvent → UnitPlace → �
 MayGet image rest history unit number k b =
     (m : UnitMemory) × MayBe unit (untouched image rest unit) history m × (list_any (got_byte number k b) m.loads ≡ true)
 
+-- whether a load doesn't enable the byte at an address
+abbrev pub skips : Option Operation → ℕ → Bool
+skips None a = false
+skips (Some o) a = not (bit_at o.enables (a - o.address) == 1)
+
 -- the byte may be returned of an address, if the load ends now: the address lies in a unit that was forgotten, or the load may have
 -- got the byte there
-abbrev pub MayReturn : List ℕ → List ℕ → Rest → ℕ → List HistoryEvent → ℕ → ℕ → ℕ → Type 0
-MayReturn lost image rest size history number a b =
+abbrev pub MayReturnAsked : List ℕ → List ℕ → Rest → ℕ → List HistoryEvent → ℕ → ℕ → ℕ → Type 0
+MayReturnAsked lost image rest size history number a b =
     (is_lost (a / size) lost ≡ true) ⊎
     ((is_lost (a / size) lost ≡ false) × MayGet image rest history (unit_at size (a / size)) number (a % size) b)
+
+-- or the load doesn't enable the byte there
+abbrev pub MayReturn : List ℕ → List ℕ → Rest → ℕ → List HistoryEvent → ℕ → ℕ → ℕ → Type 0
+MayReturn lost image rest size history number a b =
+    (skips (find (has_number number) (opened_by history).loads) a ≡ true) ⊎ MayReturnAsked lost image rest size history number a b
 
 -- for each byte of the load that is open under this number, the set of all that may be returned
 pub record AreSetsOf (lost : List ℕ) (image : List ℕ) (rest : Rest) (size : ℕ) (history : List HistoryEvent) (number : ℕ)
@@ -57,7 +69,7 @@ pub record AreSetsOf (lost : List ℕ) (image : List ℕ) (rest : Rest) (size : 
   pub exact : (i : ℕ) → (set : ByteSet) → slice_get sets i ≡ Some set → (b : ℕ) → b < 256
       → (has set b ≡ true) ↔ MayReturn lost image rest size history number (load.address + i) b
 
--- whether a load asks for the byte at an address
+-- whether a load asks for the byte at an address, enabled or not
 abbrev pub asks : Option Operation → ℕ → Bool
 asks None a = false
 asks (Some o) a = nat_le o.address a && nat_lt a (o.address + o.length)
@@ -114,13 +126,16 @@ IsSet is set = (b : ℕ) → b < 256 → has set b ≡ is b
 abbrev pub may_get_at : Held → ℕ → ℕ → ℕ → Bool
 may_get_at h number a b = may_get number (a % h.size) b (h.units (a / h.size))
 
--- the sets of n bytes from byte i on
-abbrev pub AreSetsFrom : Held → ℕ → ℕ → ℕ → ℕ → List ByteSet → Type 0
-AreSetsFrom h number a i zero [] = Unit {0}
-AreSetsFrom h number a i zero (set ∷ sets) = ⊥
-AreSetsFrom h number a i (suc n) [] = ⊥
-AreSetsFrom h number a i (suc n) (set ∷ sets) =
-    IsSet (may_get_at h number (address_of a i)) set × AreSetsFrom h number a (i + 1) n sets
+abbrev pub may_return_at : Held → Option Operation → ℕ → ℕ → ℕ → Bool
+may_return_at h load number a b = skips load a || may_get_at h number a b
+
+-- the sets of n bytes from byte i on of this load
+abbrev pub AreSetsFrom : Held → Option Operation → ℕ → ℕ → ℕ → ℕ → List ByteSet → Type 0
+AreSetsFrom h load number a i zero [] = Unit {0}
+AreSetsFrom h load number a i zero (set ∷ sets) = ⊥
+AreSetsFrom h load number a i (suc n) [] = ⊥
+AreSetsFrom h load number a i (suc n) (set ∷ sets) =
+    IsSet (may_return_at h load number (address_of a i)) set × AreSetsFrom h load number a (i + 1) n sets
 
 -- the ways lead to too many at the unit that begins at an address, in which byte a lies
 abbrev pub IsWideByte : ℕ → Held → ℕ → ℕ → Type 0
@@ -163,9 +178,10 @@ IsNoVerdict IsWideAt OutOfMemory = Unit {0}
 -- the set of the byte at an address, if the load that is open under this number asks for it
 abbrev pub IsByteOf : Held → ℕ → ℕ → Option ByteSet → Type 0
 IsByteOf h number a None = asks (find (has_number number) h.opened.loads) a ≡ false
-IsByteOf h number a (Some set) = (asks (find (has_number number) h.opened.loads) a ≡ true) × IsSet (may_get_at h number a) set
+IsByteOf h number a (Some set) = (asks (find (has_number number) h.opened.loads) a
+    ≡ true) × IsSet (may_return_at h (find (has_number number) h.opened.loads) number a) set
 
 -- the sets of the load that is open under this number
 abbrev pub HasSets : Held → ℕ → List ByteSet → Type 0
 HasSets h number sets =
-    (o : Operation) × (find (has_number number) h.opened.loads ≡ Some o) × AreSetsFrom h number o.address 0 o.length sets
+    (o : Operation) × (find (has_number number) h.opened.loads ≡ Some o) × AreSetsFrom h (Some o) number o.address 0 o.length sets

@@ -6,7 +6,7 @@ use Rattle.memory_histories.specs.declared.events.HistoryEvent.TheVariants.{Load
 use Rattle.memory_histories.specs.declared.events.HistoryFault.{HistoryFault}
 use Rattle.memory_histories.specs.declared.events.HistoryFault.TheVariants.{NotOpen, WrongLength}
 use Rattle.atomic_histories.specs.declared.unit.Operation.{Operation}
-use Rattle.memory_histories.specs.Regular.{is_inside, has_enabled, load_request_fault, store_request_fault, store_response_fault}
+use Rattle.memory_histories.specs.Regular.{is_inside, has_enabled, enables_any, request_fault, store_response_fault}
 
 -- the open operations
 pub record Opened : Type 0 where
@@ -24,11 +24,17 @@ without_number number os = filter (λ o. not (has_number number o)) os
 
 -- the open operations after an event
 abbrev pub opened_after : Opened → HistoryEvent → Opened
-opened_after o (LoadRequest number address n) =
-    record { loads = o.loads ++ record { number = number; address = address; length = n } ∷ []; stores = o.stores }
+opened_after o (LoadRequest number address n enables) =
+    record {
+      loads = o.loads ++ record { number = number; address = address; length = n; enables = enables } ∷ [];
+      stores = o.stores;
+    }
 opened_after o (LoadResponse number bytes) = record { loads = without_number number o.loads; stores = o.stores }
 opened_after o (StoreRequest number address bytes enables) =
-    record { loads = o.loads; stores = o.stores ++ record { number = number; address = address; length = length bytes.now } ∷ [] }
+    record {
+      loads = o.loads;
+      stores = o.stores ++ record { number = number; address = address; length = length bytes.now; enables = enables } ∷ [];
+    }
 opened_after o (StoreResponse number) = record { loads = o.loads; stores = without_number number o.stores }
 
 -- the open operations after a history
@@ -41,8 +47,9 @@ answer_fault (Some o) n = if o.length == n then None else Some WrongLength
 
 -- why an event is malformed while these operations are open: of the faults that hold, the first in the order of their list
 abbrev pub form_fault : Opened → HistoryEvent → Option HistoryFault
-form_fault o (LoadRequest number address n) = load_request_fault (is_inside address n) (list_any (has_number number) o.loads)
+form_fault o (LoadRequest number address n enables) =
+    request_fault (is_inside address n) (enables_any n enables) (list_any (has_number number) o.loads)
 form_fault o (LoadResponse number bytes) = answer_fault (find (has_number number) o.loads) (length bytes.now)
 form_fault o (StoreRequest number address bytes enables) =
-    store_request_fault (is_inside address (length bytes.now)) (has_enabled bytes.now enables) (list_any (has_number number) o.stores)
+    request_fault (is_inside address (length bytes.now)) (has_enabled bytes.now enables) (list_any (has_number number) o.stores)
 form_fault o (StoreResponse number) = store_response_fault (list_any (has_number number) o.stores)

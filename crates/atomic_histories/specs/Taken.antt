@@ -2,6 +2,7 @@
 use Rattle.std.specs.Prelude.{ℕ, ◌≡◌, Bool, true, false, nat_le, List, [], ◌∷◌, Option}
 use Rattle.atomic_histories.specs.declared.unit.OpenStore.{OpenStore}
 use Rattle.atomic_histories.specs.declared.unit.UnitPlace.{UnitPlace}
+use Rattle.atomic_histories.specs.declared.unit.LoadAddress.{LoadAddress}
 use Rattle.atomic_histories.specs.declared.stretches.Before.TheVariants.{Nothing}
 use Rattle.atomic_histories.specs.declared.pairs.FollowedPair.{FollowedPair}
 use Rattle.atomic_histories.specs.declared.kept.KeptUnit.{KeptUnit}
@@ -22,7 +23,7 @@ IsTakenTo ways before after true = (shown_unit after ≡ ways) × (has_way ways 
 IsTakenTo ways before after false = IsUnitKept before after
 
 -- the one store of a pair, before which nothing stood, makes this word, which is an answer's as the word of now isn't
-pub record IsNextWord (unit : UnitPlace) (address : ℕ) (bytes : List ℕ) (p : FollowedPair) (word : List (Option ℕ)) : Type 0 where
+pub record IsNextWord (unit : UnitPlace) (address : LoadAddress) (bytes : List ℕ) (p : FollowedPair) (word : List (Option ℕ)) : Type 0 where
   pub past : p.past ≡ Nothing
   pub store : OpenStore
   pub one : p.stores.items ≡ store ∷ []

@@ -6,6 +6,7 @@ use Rattle.std.specs.Int.{bit_at}
 use Rattle.memory_histories.specs.declared.events.Rest.{Rest}
 use Rattle.memory_histories.specs.declared.events.Rest.TheVariants.{Zeros, Unknown}
 use Rattle.atomic_histories.specs.declared.unit.UnitPlace.{UnitPlace}
+use Rattle.atomic_histories.specs.declared.unit.LoadAddress.{LoadAddress}
 
 -- what is said of each byte of a unit, where it is said of each address. A word has eight places, and nothing is said of those
 -- beyond the unit's size
@@ -39,6 +40,14 @@ enabled_byte bytes enables k = if bit_at enables k == 1 then slice_get bytes k e
 abbrev pub stored_byte : ℕ → List ℕ → ℕ → ℕ → Option ℕ
 stored_byte address bytes enables a = if nat_le address a then enabled_byte bytes enables (a - address) else None
 
+-- where a load reads that is requested so
+abbrev pub reads_from : ℕ → ℕ → LoadAddress
+reads_from address enables = record { first = address; enables = enables }
+
+-- the byte that a load's answer gives for an address: there is none if it isn't enabled
+abbrev pub read_byte : LoadAddress → List ℕ → ℕ → Option ℕ
+read_byte from bytes a = stored_byte from.first bytes from.enables a
+
 -- whether an operation of so many bytes has one at the unit
 abbrev pub is_at : UnitPlace → ℕ → ℕ → Bool
 is_at unit address length = nat_lt address (unit.first + unit.size) && nat_lt unit.first (address + length)
@@ -59,7 +68,12 @@ is_as_it_stood None answer = true
 is_as_it_stood (Some b) None = true
 is_as_it_stood (Some b) (Some c) = b == c
 
--- whether these bytes from an address on are the word's, as far as they lie in the unit, which begins at `first`
-unfoldable pub is_word_of : ℕ → List (Option ℕ) → ℕ → List ℕ → Bool
-is_word_of first [] address bytes = true
-is_word_of first (b ∷ bs) address bytes = is_as_it_stood b (byte_for address bytes first) && is_word_of (first + 1) bs address bytes
+-- whether these bytes of an answer are the word's, as far as they lie in the unit, which begins at `first`, and are enabled
+unfoldable pub is_word_of : ℕ → List (Option ℕ) → LoadAddress → List ℕ → Bool
+is_word_of first [] from bytes = true
+is_word_of first (b ∷ bs) from bytes = is_as_it_stood b (read_byte from bytes first) && is_word_of (first + 1) bs from bytes
+
+-- the same of bytes that are all enabled, from this one on, if they begin with the unit
+unfoldable pub is_first_word : List (Option ℕ) → List ℕ → ℕ → Bool
+is_first_word [] bytes k = true
+is_first_word (b ∷ bs) bytes k = is_as_it_stood b (slice_get bytes k) && is_first_word bs bytes (k + 1)

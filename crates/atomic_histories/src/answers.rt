@@ -19,7 +19,7 @@ use crate::search::{Asked, MOST_WORDS, Stop, search};
 use crate::splits::{Split, split_stretches};
 use crate::stretches::{Before, words_in};
 use crate::unit::{UnitPlace, WatchedLoad};
-use crate::words::{has_byte, is_at, is_word_of, stored_word};
+use crate::words::{has_byte, is_at, is_word_of, reads_from, stored_word};
 use memory_histories::HistoryEvent;
 use std::alloc::{AllocError, Global};
 
@@ -292,9 +292,10 @@ fn follow(
             number,
             address,
             length,
+            enables,
         } => {
             if is_at(unit, address, length) {
-                kept.request_load(number, address)?;
+                kept.request_load(number, reads_from(address, enables))?;
             }
             Ok(())
         }

@@ -23,8 +23,8 @@ use crate::pairs::FollowedPair;
 use crate::search::MOST_WORDS;
 use crate::splits::is_answer;
 use crate::stretches::{Before, Stretch, overwrite, past_on};
-use crate::unit::{OpenStore, UnitPlace, WatchedLoad, Word};
-use crate::words::{has_byte, is_at, is_word_of, stored_word, write};
+use crate::unit::{LoadAddress, OpenStore, UnitPlace, WatchedLoad, Word};
+use crate::words::{has_byte, is_at, is_word_of, reads_from, stored_word, write};
 use memory_histories::HistoryEvent;
 use std::alloc::{AllocError, Global};
 use std::collections::HashMap;
@@ -137,7 +137,12 @@ fn past_behind(
 }
 
 // The word that the one store makes, if it is the answer's and no earlier one.
-fn next_word(place: UnitPlace, pair: &FollowedPair, address: u64, bytes: &[u8]) -> Option<Word>
+fn next_word(
+    place: UnitPlace,
+    pair: &FollowedPair,
+    address: LoadAddress,
+    bytes: &[u8],
+) -> Option<Word>
     ensures { IfSome result (IsNextWord place address bytes.now pair.now) }
 {
     if pair.past != Before::Nothing || pair.stores.len() != 1 || pair.stores[0].is_done {
@@ -323,9 +328,10 @@ pub(crate) fn take_at_once(
             number,
             address,
             length,
+            enables,
         } => {
             if is_at(place, address, length) {
-                unit.request_load(number, address)?;
+                unit.request_load(number, reads_from(address, enables))?;
             }
             Ok(true)
         }

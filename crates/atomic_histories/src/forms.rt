@@ -6,7 +6,7 @@ ghost use Rattle.atomic_histories.specs.Operations.{has_number, without_number, 
 
 use crate::unit::Operation;
 use memory_histories::{
-    HistoryEvent, HistoryFault, has_enabled, is_inside, load_request_fault, store_request_fault,
+    HistoryEvent, HistoryFault, enables_any, has_enabled, is_inside, request_fault,
     store_response_fault,
 };
 
@@ -71,7 +71,12 @@ pub(crate) fn form_fault(
             number,
             address,
             length,
-        } => load_request_fault(is_inside(address, length), is_open(loads, number)),
+            enables,
+        } => request_fault(
+            is_inside(address, length),
+            enables_any(length, enables),
+            is_open(loads, number),
+        ),
         HistoryEvent::LoadResponse { number, bytes } => {
             answer_fault(open_under(loads, number), bytes.len())
         }
@@ -80,7 +85,7 @@ pub(crate) fn form_fault(
             address,
             bytes,
             enables,
-        } => store_request_fault(
+        } => request_fault(
             is_inside(address, bytes.len()),
             has_enabled(bytes, enables),
             is_open(stores, number),

@@ -2,11 +2,11 @@
 
 ghost use Rattle.std.specs.Prelude.{◌≡◌, ◌+◌, ◌<◌, ◌&&◌, not, get_or, None};
 ghost use Rattle.std.specs.List.{list_all, list_any, range_with_len};
-ghost use Rattle.atomic_histories.specs.Words.{byte_for};
+ghost use Rattle.atomic_histories.specs.Words.{read_byte};
 ghost use Rattle.atomic_histories.specs.Branches.{gives, may_come_in};
 
-use crate::unit::{OpenStore, Word};
-use crate::words::{byte_for, is_as_it_stood};
+use crate::unit::{LoadAddress, OpenStore, Word};
+use crate::words::{is_as_it_stood, read_byte};
 
 // Whether a store writes an answer's byte in a lane.
 fn gives(stored: Option<u8>, answer: Option<u8>) -> bool
@@ -50,15 +50,15 @@ fn may_come_at(
     word: &Word,
     stores: &[OpenStore],
     first: u64,
-    from: u64,
+    from: LoadAddress,
     bytes: &[u8],
     lane: usize,
 ) -> bool
     requires { lane < 8 }
-    ensures { result ≡ may_come_in lane word.now stores.now (byte_for from bytes.now (first + lane)) }
+    ensures { result ≡ may_come_in lane word.now stores.now (read_byte from bytes.now (first + lane)) }
 {
     let address = u128::from(first) + lane as u128;
-    may_come_in(word, stores, lane, byte_for(from, bytes, address))
+    may_come_in(word, stores, lane, read_byte(from, bytes, address))
 }
 
 // The same of bytes from an address on.
@@ -66,10 +66,10 @@ pub(crate) fn may_come(
     word: &Word,
     stores: &[OpenStore],
     first: u64,
-    from: u64,
+    from: LoadAddress,
     bytes: &[u8],
 ) -> bool
-    ensures { result ≡ list_all (λ k. may_come_in k word.now stores.now (byte_for from bytes.now (first + k))) (range_with_len 0 8) }
+    ensures { result ≡ list_all (λ k. may_come_in k word.now stores.now (read_byte from bytes.now (first + k))) (range_with_len 0 8) }
 {
     may_come_at(word, stores, first, from, bytes, 0)
         && may_come_at(word, stores, first, from, bytes, 1)

@@ -17,7 +17,7 @@ use crate::loads::{end_load, is_first, oldest_without};
 use crate::moves::{Moved, cut_before, without_unused};
 use crate::pairs::{FollowedPair, end_store};
 use crate::stretches::{Before, Stretch};
-use crate::unit::{OpenStore, WatchedLoad, Word};
+use crate::unit::{LoadAddress, OpenStore, WatchedLoad, Word};
 use std::alloc::{AllocError, Global};
 
 // So many stretches beyond twice those in use may be kept: most units never have them, and dropping
@@ -207,7 +207,11 @@ impl KeptUnit {
     }
 
     // A load is requested. If moments have no more numbers, that counts as want of memory.
-    pub(crate) fn request_load(&mut self, number: u64, address: u64) -> Result<(), AllocError>
+    pub(crate) fn request_load(
+        &mut self,
+        number: u64,
+        address: LoadAddress,
+    ) -> Result<(), AllocError>
         ensures ok { OnOk result (shown_unit self.new ≡ ways_with_load number address (shown_unit self.old)) }
         ensures err { OnErr result (shown_unit self.new ≡ shown_unit self.old) }
         ensures err_stretches { OnErr result (self.new.stretches ≡ self.old.stretches) }

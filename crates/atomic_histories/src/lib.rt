@@ -36,4 +36,4 @@ pub use memory::{AtomicFault, AtomicMemory, DEFAULT_LIMIT, UnitSize};
 pub use pairs::{FollowedPair, Wanted};
 pub use search::{MOST_WORDS, Stop};
 pub use stretches::{Before, Stretch};
-pub use unit::{OpenStore, Operation, UnitPlace, WatchedLoad, Word};
+pub use unit::{LoadAddress, OpenStore, Operation, UnitPlace, WatchedLoad, Word};

@@ -1,11 +1,13 @@
 //! The judge of the atomic law.
 
-ghost use Rattle.std.specs.Prelude.{◌≡◌, ◌+◌, ◌*◌, ◌/◌, ◌^◌, ◌<◌, ◌≤◌, List, ◌++◌, ◌∷◌, [], ℕ, true, false, map, length, None, IfOk, IfErr};
+ghost use Rattle.std.specs.Prelude.{◌≡◌, ◌+◌, ◌*◌, ◌/◌, ◌^◌, ◌<◌, ◌≤◌, if◌then◌else◌, List, ◌++◌, ◌∷◌, [], ℕ, true, false, map, length};
+ghost use Rattle.std.specs.Prelude.{None, Some, IfOk, IfErr};
 ghost use Rattle.std.specs.Prelude.{IfSome, IfNone, OnOk, OnErr};
 ghost use Rattle.std.specs.HashMap.{spare};
 ghost use Rattle.std.specs.Vec.{vec_len, vec_capacity};
 ghost use Rattle.std.specs.Result.{result_err};
 ghost use Rattle.std.specs.List.{find};
+ghost use Rattle.memory_histories.specs.Sets.{all_bytes};
 ghost use Rattle.memory_histories.specs.declared.events.HistoryEvent.{HistoryEvent};
 ghost use Rattle.atomic_histories.specs.Operations.{opened_after, form_fault, has_number};
 ghost use Rattle.atomic_histories.specs.Law.{IsAtomic, unit_at};
@@ -14,7 +16,8 @@ ghost use Rattle.atomic_histories.specs.Lost.{IsAtomicBut};
 ghost use Rattle.atomic_histories.specs.Held.{nothing_held, covered, changed, ways_from, ways_there, is_stuck, StandsForAll, StandsBut};
 ghost use Rattle.atomic_histories.specs.Held.{is_over_at, halt_from};
 ghost use Rattle.atomic_histories.specs.Few.{IsFewFor, AreFew};
-ghost use Rattle.atomic_histories.specs.May.{asks, AreSetsOf, IsSetOf, HasSets, IsByteOf, IsSet, may_get_at, AreSetsFrom, address_of};
+ghost use Rattle.atomic_histories.specs.May.{asks, skips, may_return_at, AreSetsOf, IsSetOf, HasSets, IsByteOf, IsSet, may_get_at};
+ghost use Rattle.atomic_histories.specs.May.{AreSetsFrom, address_of};
 ghost use Rattle.atomic_histories.specs.May.{LoadFaultIs, IsNoVerdict, IsWideByte, IsWideLoad};
 ghost use Rattle.atomic_histories.specs.May.{is_wide_at, AreNarrow, IsNarrowLoad};
 ghost use Rattle.atomic_histories.specs.Judge.{bytes_of, fault_of, held, limit_of, HasSameMemory, IsTaken, IsForgotten};
@@ -33,7 +36,7 @@ use crate::unit::{Operation, UnitPlace};
 use crate::units::{
     add_unit, changed_unit, covered, put_unit, put_units, units_of, untouched_unit,
 };
-use memory_histories::{ByteSet, HistoryEvent, HistoryFault, Rest};
+use memory_histories::{ByteSet, HistoryEvent, HistoryFault, Rest, is_enabled};
 use std::alloc::{AllocError, Global};
 use std::collections::HashMap;
 use thiserror::Error;
@@ -258,10 +261,11 @@ impl AtomicMemory {
         ensures fault { IfErr result (IsNoVerdict (IsWideByte (limit_of self.now) (held self.now) address)) }
         ensures asked { OnErr result (asks (find (has_number number) (held self.now).opened.loads) address ≡ true) }
     {
-        if !asks(open_under(self.loads.as_slice(), number), address) {
+        let load = open_under(self.loads.as_slice(), number);
+        if !asks(load, address) {
             return Ok(None);
         }
-        let set = self.set_at(number, address)?;
+        let set = self.set_of(load, number, address)?;
         Ok(Some(set))
     }
 
@@ -274,27 +278,44 @@ impl AtomicMemory {
     {
         match open_under(self.loads.as_slice(), number) {
             None => Err(AtomicFault::Refused(HistoryFault::NotOpen)),
-            Some(load) => self.sets_from(number, load.address, load.length),
+            Some(load) => self.sets_from(load, number, load.address, load.length),
         }
     }
 
     #[tactic(auto, using(crate::proofs::MaySteps::one_set_more))]
     fn sets_from(
         &self,
+        load: Operation,
         number: u64,
         address: u64,
         length: usize,
     ) -> Result<Vec<ByteSet>, AtomicFault>
-        ensures sets { IfOk result (λ sets. AreSetsFrom (held self.now) number address 0 length sets.items) }
+        ensures sets { IfOk result (λ sets. AreSetsFrom (held self.now) (Some load) number address 0 length sets.items) }
         ensures narrow { OnOk result (AreNarrow (limit_of self.now) (held self.now) number address length) }
         ensures fault { IfErr result (IsNoVerdict (IsWideLoad (limit_of self.now) (held self.now) address length)) }
     {
         let mut sets = Vec::new(self.alloc);
         for i in 0..length {
-            let set = self.set_at(number, byte_address(address, i))?;
+            let set = self.set_of(Some(load), number, byte_address(address, i))?;
             push_set(&mut sets, set)?;
         }
         Ok(sets)
+    }
+
+    // Of the byte at an address, which may be anything if the load doesn't enable it.
+    #[tactic(auto, using(crate::proofs::MaySteps::asked_is))]
+    fn set_of(
+        &self,
+        load: Option<Operation>,
+        number: u64,
+        address: u64,
+    ) -> Result<ByteSet, AtomicFault>
+        ensures set { IfOk result (IsSet (may_return_at (held self.now) load number address)) }
+        ensures narrow { OnOk result (is_wide_at (limit_of self.now) (held self.now) number address ≡ false) }
+        ensures fault { IfErr result (IsNoVerdict (IsWideByte (limit_of self.now) (held self.now) address)) }
+    {
+        let set = self.set_at(number, address)?;
+        Ok(asked_set(skips(load, address), set))
     }
 
     // Of the byte at an address.
@@ -543,23 +564,26 @@ impl AtomicMemory {
                 number,
                 address,
                 length,
+                enables,
             } => self.loads.push_reserved(Operation {
                 number,
                 address,
                 length,
+                enables,
             }),
             HistoryEvent::LoadResponse { number, bytes: _ } => close(&mut self.loads, number),
             HistoryEvent::StoreRequest {
                 number,
                 address,
                 bytes,
-                enables: _,
+                enables,
             } => {
                 let length = bytes.len();
                 self.stores.push_reserved(Operation {
                     number,
                     address,
                     length,
+                    enables,
                 });
             }
             HistoryEvent::StoreResponse { number } => close(&mut self.stores, number),
@@ -577,6 +601,23 @@ fn asks(load: Option<Operation>, address: u64) -> bool
                 && u128::from(address) < u128::from(load.address) + load.length as u128
         }
     }
+}
+
+// Whether a load doesn't enable the byte at an address.
+fn skips(load: Option<Operation>, address: u64) -> bool
+    ensures { result ≡ skips load address }
+{
+    match load {
+        None => false,
+        Some(load) => !is_enabled(load.enables, address.saturating_sub(load.address)),
+    }
+}
+
+// What may be returned of a byte, if this is what may be got there.
+fn asked_set(skipped: bool, set: ByteSet) -> ByteSet
+    ensures { result ≡ (if skipped then all_bytes else set) }
+{
+    if skipped { ByteSet::all() } else { set }
 }
 
 // The address of byte `i`.

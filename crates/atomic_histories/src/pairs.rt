@@ -11,7 +11,7 @@ ghost use Rattle.atomic_histories.specs.Shown.{past_at, pasts, shown, aim_of};
 
 use crate::hopes::may_come;
 use crate::stretches::Before;
-use crate::unit::{OpenStore, UnitPlace, Word};
+use crate::unit::{LoadAddress, OpenStore, UnitPlace, Word};
 use crate::words::{is_same_word, is_word_of, write};
 use std::alloc::{AllocError, Global};
 
@@ -42,8 +42,8 @@ pub enum Wanted<'a> {
     Answer {
         /// The unit in which it stands.
         unit: UnitPlace,
-        /// The address of the answer's first byte.
-        address: u64,
+        /// Where the answer's load reads.
+        address: LoadAddress,
         /// The answer's bytes.
         bytes: &'a [u8],
     },

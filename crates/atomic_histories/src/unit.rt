@@ -21,6 +21,17 @@ pub struct Operation {
     pub address: u64,
     /// How many bytes it has.
     pub length: usize,
+    /// Which of them are enabled: bit `k` is byte `k`'s.
+    pub enables: u64,
+}
+
+/// Where a load reads.
+#[derive(Clone, Copy, PartialEq, Eq, Debug)]
+pub struct LoadAddress {
+    /// The address of its first byte.
+    pub first: u64,
+    /// Which of its bytes are enabled: bit `k` is byte `k`'s.
+    pub enables: u64,
 }
 
 /// An open store at a unit: its bytes there (`None` for those it doesn't write), and whether it has
@@ -40,8 +51,8 @@ pub struct OpenStore {
 pub struct WatchedLoad {
     /// The number of the load.
     pub number: u64,
-    /// The address of its first byte.
-    pub address: u64,
+    /// Where it reads.
+    pub address: LoadAddress,
     /// The moment of its request: how many loads had been requested here by then, since there were
     /// none. It may get words overwritten then or later.
     pub since: u64,

@@ -41,6 +41,7 @@ pub(crate) fn covered(
             number: _,
             address,
             length,
+            enables: _,
         } => (address, length),
         HistoryEvent::LoadResponse { number, bytes: _ } => bytes_of_open(open_under(loads, number)),
         HistoryEvent::StoreRequest {

@@ -4,11 +4,12 @@ ghost use Rattle.std.specs.Prelude.{◌≡◌, ◌==◌, ◌<◌, None, get_or, 
 ghost use Rattle.std.specs.Option.{option_eq};
 ghost use Rattle.atomic_histories.specs.Followed.{is_same_word, are_same_lanes};
 ghost use Rattle.std.specs.List.{list_any};
-ghost use Rattle.atomic_histories.specs.Words.{at_unit, first_byte, initial_byte, byte_for, enabled_byte, stored_byte, at_lane, is_at};
-ghost use Rattle.atomic_histories.specs.Words.{written_byte, written, is_as_it_stood, is_word_of};
+ghost use Rattle.atomic_histories.specs.Words.{at_unit, first_byte, initial_byte, reads_from, read_byte, enabled_byte, stored_byte};
+ghost use Rattle.atomic_histories.specs.Words.{at_lane, is_at};
+ghost use Rattle.atomic_histories.specs.Words.{written_byte, written, is_as_it_stood, is_word_of, is_first_word};
 
-use crate::unit::{UnitPlace, Word};
-use memory_histories::Rest;
+use crate::unit::{LoadAddress, UnitPlace, Word};
+use memory_histories::{ALL_ENABLED, MAX_LENGTH, Rest};
 
 // A byte before the first store: the image's, or the rest's.
 fn first_byte(image: Option<u8>, rest: Rest) -> Option<u8>
@@ -39,18 +40,6 @@ fn initial_byte(image: &[u8], rest: Rest, address: u128) -> Option<u8>
     first_byte(byte_at(image, address), rest)
 }
 
-/// The byte for an address, in bytes from another address on.
-pub(crate) fn byte_for(from: u64, bytes: &[u8], address: u128) -> Option<u8>
-    ensures { result ≡ byte_for from bytes.now address }
-{
-    let from = u128::from(from);
-    if from <= address {
-        byte_at(bytes, address - from)
-    } else {
-        None
-    }
-}
-
 #[tactic(auto, using(crate::proofs::Bits::none_above))]
 fn enabled_byte(bytes: &[u8], enables: u64, place: u128) -> Option<u8>
     ensures { result ≡ enabled_byte bytes.now enables place }
@@ -64,6 +53,23 @@ fn enabled_byte(bytes: &[u8], enables: u64, place: u128) -> Option<u8>
     } else {
         None
     }
+}
+
+/// Where a load reads that is requested so.
+pub(crate) fn reads_from(address: u64, enables: u64) -> LoadAddress
+    ensures { result ≡ reads_from address enables }
+{
+    LoadAddress {
+        first: address,
+        enables,
+    }
+}
+
+/// The byte that a load's answer gives for an address: none if it isn't enabled.
+pub(crate) fn read_byte(from: LoadAddress, bytes: &[u8], address: u128) -> Option<u8>
+    ensures { result ≡ read_byte from bytes.now address }
+{
+    stored_byte(from.first, bytes, from.enables, address)
 }
 
 fn stored_byte(from: u64, bytes: &[u8], enables: u64, address: u128) -> Option<u8>
@@ -234,22 +240,22 @@ pub(crate) fn is_as_it_stood(byte: Option<u8>, answer: Option<u8>) -> bool
     }
 }
 
-// Whether these bytes are the word's, as far as they lie in the unit.
+// Whether these bytes are the word's, as far as they lie in the unit and are enabled.
 #[tactic(auto, using(crate::proofs::Bits::first_same))]
-pub(crate) fn is_word_of(first: u64, word: &[Option<u8>], from: u64, bytes: &[u8]) -> bool
+pub(crate) fn is_word_of(first: u64, word: &[Option<u8>], from: LoadAddress, bytes: &[u8]) -> bool
     ensures { result ≡ is_word_of first word.now from bytes.now }
 {
-    if from == first {
+    if from.first == first && from.enables == ALL_ENABLED && bytes.len() <= MAX_LENGTH {
         is_first_word(word, bytes)
     } else {
         is_any_word(first, word, from, bytes)
     }
 }
 
-// The same of bytes that begin with the unit.
-#[tactic(auto, using(crate::proofs::Bits::first_more, crate::proofs::Bits::word_all), unfolding(crate::specs::Words::is_word_of))]
+// The same of bytes that begin with the unit and are all enabled.
+#[tactic(auto, using(crate::proofs::Bits::first_more, crate::proofs::Bits::first_all), unfolding(crate::specs::Words::is_first_word))]
 fn is_first_word(word: &[Option<u8>], bytes: &[u8]) -> bool
-    ensures { result ≡ is_word_of 0 word.now 0 bytes.now }
+    ensures { result ≡ is_first_word word.now bytes.now 0 }
 {
     for k in 0..word.len() {
         if !is_as_it_stood(word[k], byte_in(bytes, k)) {
@@ -267,12 +273,12 @@ fn byte_in(bytes: &[u8], place: usize) -> Option<u8>
 
 // The same of bytes that begin anywhere.
 #[tactic(auto, using(crate::proofs::Bits::word_more, crate::proofs::Bits::word_all), unfolding(crate::specs::Words::is_word_of))]
-fn is_any_word(first: u64, word: &[Option<u8>], from: u64, bytes: &[u8]) -> bool
+fn is_any_word(first: u64, word: &[Option<u8>], from: LoadAddress, bytes: &[u8]) -> bool
     ensures { result ≡ is_word_of first word.now from bytes.now }
 {
     for k in 0..word.len() {
         let address = u128::from(first) + k as u128;
-        if !is_as_it_stood(word[k], byte_for(from, bytes, address)) {
+        if !is_as_it_stood(word[k], read_byte(from, bytes, address)) {
             return false;
         }
     }

@@ -11,10 +11,11 @@ use crate::status::{CLOSED, DONE, judge_number};
 use memory_histories::HistoryEvent;
 use std::alloc::Global;
 
-/// A load of `length` bytes from `address` on is requested under this number.
+/// A load of `length` bytes from `address` on is requested under this number; bit `k` of `enables`
+/// enables byte `k`, and what is answered of the others isn't judged.
 ///
-/// 0: taken. 100: closed. 151: 0 bytes, more than 64, or beyond the last address. 153: the number
-/// has an open load. 101: too little memory. 104: 2^64 - 1 events were taken; never by the atomic law.
+/// 0: taken. 100: closed. 151: 0 bytes, more than 64, or beyond the last address. 152: no byte is
+/// enabled. 153: the number has an open load. 101: too little memory. 104: 2^64 - 1 events were taken; never by the atomic law.
 /// After each but 0 nothing has changed.
 pub fn load_request(
     alloc: Global,
@@ -22,23 +23,22 @@ pub fn load_request(
     number: u64,
     address: u64,
     length: usize,
+    enables: u64,
 ) -> u32
     ensures told { (b : Option Session)
         → IsBehind handle.old b
-        → IsEventTold result handle.old handle.new b (LoadRequest number address length) }
+        → IsEventTold result handle.old handle.new b (LoadRequest number address length enables) }
     ensures coverage { (b : Option Session)
         → IsBehind handle.old b
-        → IsEventCounted result handle.old handle.new b (LoadRequest number address length) }
+        → IsEventCounted result handle.old handle.new b (LoadRequest number address length enables) }
 {
-    tell(
-        alloc,
-        handle,
-        HistoryEvent::LoadRequest {
-            number,
-            address,
-            length,
-        },
-    )
+    let event = HistoryEvent::LoadRequest {
+        number,
+        address,
+        length,
+        enables,
+    };
+    tell(alloc, handle, event)
 }
 
 /// The load open under this number is answered with these bytes.
@@ -60,7 +60,7 @@ pub fn load_response(alloc: Global, handle: &mut HistoryHandle, number: u64, byt
 
 /// A store of these bytes from `address` on is requested; bit `k` of `enables` enables byte `k`.
 ///
-/// 0: taken. 152: no byte is enabled. Others as of [`load_request`], with stores.
+/// As of [`load_request`], with stores.
 pub fn store_request(
     alloc: Global,
     handle: &mut HistoryHandle,

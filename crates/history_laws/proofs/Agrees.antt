@@ -11,6 +11,7 @@ use Rattle.memory_histories.specs.declared.events.HistoryEvent.TheVariants.{Load
 use Rattle.memory_histories.specs.declared.windows.StoreByte.{StoreByte}
 use Rattle.memory_histories.specs.declared.windows.LoadByte.{LoadByte}
 use Rattle.memory_histories.specs.Windows.{Windows, store_bytes, is_open, after_response, windows_after}
+use Rattle.memory_histories.specs.Windows as windows
 use Rattle.memory_histories.specs.Regular.{has_enabled}
 use Rattle.memory_histories.proofs.Lists.{list_any-map, list_any-filter, list_any-kept, list_any-same}
 use Rattle.atomic_histories.specs.declared.unit.Operation.{Operation}
@@ -22,7 +23,7 @@ use Rattle.history_laws.proofs.Pieces.{Marked, IsSome, bytes_of, all_bytes, piec
 use Rattle.history_laws.proofs.Open.{Loads, loads_more, loads_fewer, inside_some, marked_after}
 use Rattle.history_laws.proofs.Words.{any_new}
 use Rattle.history_laws.proofs.Fits.{after_cases}
-use Rattle.atomic_histories.proofs.Links.{none_is, load_allowed, store_allowed}
+use Rattle.atomic_histories.proofs.Links.{none_is, is_allowed}
 
 -- Prefixes of a history that isn't malformed. ----
 
@@ -36,14 +37,18 @@ formed_parts o (x ∷ xs) event h =
 
 -- The open loads and stores of the regular law. ----
 
-abbrev pub load_byte : ℕ → ℕ → ℕ → LoadByte
-load_byte n a t = record { number = n; address = a; began = t }
+abbrev pub load_byte : Operation → ℕ → ℕ → LoadByte
+load_byte o a t = windows.load_byte o.number o.address o.enables t a
 
 abbrev pub number_of : LoadByte → ℕ
 number_of l = l.number
 
-pub its_number : (n a t : ℕ) → number_of (load_byte n a t) ≡ n
-its_number n a t = refl
+-- a byte of a load, whichever it is
+abbrev pub any_byte : ℕ → ℕ → LoadByte
+any_byte a t = record { number = 0; address = a; began = t; enabled = true }
+
+pub its_number : (o : Operation) (a t : ℕ) → number_of (load_byte o a t) ≡ o.number
+its_number o a t = refl
 
 pub record Agrees (o : Opened) (w : Windows) (ks : List (Marked ℕ)) : Type 0 where
   pub loads : Loads load_byte number_of its_number ks w.loads o.loads
@@ -111,17 +116,18 @@ stores_fewer stores os n t h m = elim (cases_Bool _) [
 
 pub agrees_after : (o : Opened) (w : Windows) (ks : List (Marked ℕ)) (event : HistoryEvent) → Agrees o w ks → form_fault o event ≡ None
     → Agrees (opened_after o event) (windows_after w event) (marked_after w.moment ks event)
-agrees_after o w ks (LoadRequest n a len) g f =
-    let p = load_allowed _ _ f in
+agrees_after o w ks (LoadRequest n a len e) g f =
+    let p = is_allowed _ _ _ f in
     record {
       loads = loads_more load_byte number_of its_number ks w.loads o.loads g.loads (record {
         operation = record {
           number = n;
           address = a;
           length = len;
+          enables = e;
         };
         mark = w.moment;
-      }) p.1 (inside_some a len p.0);
+      }) p.1.1 (inside_some a len p.0);
       stores = g.stores;
     }
 agrees_after o w ks (LoadResponse n bytes) g f = record {
@@ -129,11 +135,12 @@ agrees_after o w ks (LoadResponse n bytes) g f = record {
   stores = g.stores;
 }
 agrees_after o w ks (StoreRequest n a bytes e) g f =
-    let p = store_allowed _ _ _ f in
+    let p = is_allowed _ _ _ f in
     record {
       loads = g.loads;
       stores = λ m.
-          stores_more w.stores o.stores n a bytes.now e w.moment (record { number = n; address = a; length = length bytes.now }) refl p.1.0
+          stores_more w.stores o.stores n a bytes.now e w.moment
+          (record { number = n; address = a; length = length bytes.now; enables = e }) refl p.1.0
           m
           (g.stores m);
     }
@@ -163,13 +170,13 @@ agrees_from o w ks (x ∷ xs) g f =
 -- what passes of all bytes of open loads passes of the first one of each
 pub each_first : (q : LoadByte → Bool) (ks : List (Marked ℕ)) → Each IsSome ks
     → list_all q (all_bytes load_byte number_of its_number ks) ≡ true
-    → Each (λ k. q (load_byte k.operation.number k.operation.address k.mark) ≡ true) ks
+    → Each (λ k. q (load_byte k.operation k.operation.address k.mark) ≡ true) ks
 each_first q [] s h = tt
 each_first q (k ∷ ks) s h =
     let p = and_parts _ _ (sym (list_all-append q (bytes_of load_byte number_of its_number k) _) ∙ h) in
-    (first_of_piece q k.operation.number k.mark k.operation.address k.operation.length s.0 p.0, each_first q ks s.1 p.1)
+    (first_of_piece q k.operation k.mark k.operation.address k.operation.length s.0 p.0, each_first q ks s.1 p.1)
   where
-    first_of_piece : (q : LoadByte → Bool) (n x a len : ℕ) → 1 ≤ len → list_all q (piece load_byte number_of its_number n x a len) ≡ true
-        → q (load_byte n a x) ≡ true
+    first_of_piece : (q : LoadByte → Bool) (n : Operation) (x a len : ℕ) → 1 ≤ len
+        → list_all q (piece load_byte number_of its_number n x a len) ≡ true → q (load_byte n a x) ≡ true
     first_of_piece q n x a zero l h = absurd (omega arith)
     first_of_piece q n x a (suc len) l h = (and_parts _ _ h).0

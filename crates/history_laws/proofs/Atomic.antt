@@ -1,5 +1,5 @@
 -- An atomic history is a regular one.
-use Rattle.std.proofs.Common.{◌≡◌, ℕ, ◌+◌, ◌*◌, ◌/◌, ◌%◌, ◌<◌, ◌≤◌, true, ◌||◌, not, if◌then◌else◌, List, [], ◌∷◌, ◌++◌}
+use Rattle.std.proofs.Common.{◌≡◌, ℕ, ◌+◌, ◌-◌, ◌*◌, ◌/◌, ◌%◌, ◌<◌, ◌≤◌, true, ◌==◌, ◌||◌, not, if◌then◌else◌, List, [], ◌∷◌, ◌++◌}
 use Rattle.std.proofs.Common.{length, fold, Option, Some, None, slice_get, inl, inr, refl, sym, ap, ◌∙◌, subst, append-nil, append_assoc}
 use Rattle.std.proofs.Common.{div-add-mod', mod-lt, eq-eqb, eqb-true, arith}
 use Rattle.std.specs.Prelude.{is_some, IsTrue}
@@ -9,26 +9,30 @@ use Rattle.std.proofs.lemmas.Bool.{cases_Bool, and_parts}
 use Rattle.std.proofs.lemmas.List.Sums.{fold-append}
 use Rattle.std.proofs.lemmas.Option.{same_Some, cond_some}
 use Rattle.atomic_histories.proofs.Whole.{formed_more}
-use Rattle.atomic_histories.proofs.MayLaws.{byte_inside, seen_last}
+use Rattle.atomic_histories.proofs.MayLaws.{seen_last}
 use Rattle.memory_histories.specs.declared.events.HistoryEvent.{HistoryEvent}
 use Rattle.memory_histories.specs.declared.events.HistoryEvent.TheVariants.{LoadRequest, LoadResponse, StoreRequest, StoreResponse}
 use Rattle.memory_histories.specs.declared.events.Rest.{Rest}
 use Rattle.memory_histories.specs.declared.windows.StoreByte.{StoreByte}
 use Rattle.memory_histories.specs.Windows.{Windows, windows_after}
 use Rattle.memory_histories.specs.Windows as windows
-use Rattle.memory_histories.specs.Regular.{is_inside, has_enabled, load_request_fault, load_response_fault, store_request_fault}
+use Rattle.memory_histories.specs.Regular.{is_inside, has_enabled, enables_any, request_fault, load_response_fault}
 use Rattle.memory_histories.specs.Regular.{store_response_fault, may_return, may_return_byte, fault, regular_run}
 use Rattle.memory_histories.specs.Kept.{Kept, kept_after, IsTimely, StandsFor}
 use Rattle.memory_histories.proofs.Stands.{stands_first, stands_after}
 use Rattle.atomic_histories.specs.declared.unit.UnitPlace.{UnitPlace}
-use Rattle.atomic_histories.specs.Words.{at_unit, initial_byte, stored_byte, byte_for, is_at, is_as_it_stood}
+use Rattle.atomic_histories.specs.declared.unit.LoadAddress.{LoadAddress}
+use Rattle.atomic_histories.specs.Words.{at_unit, initial_byte, stored_byte, reads_from, read_byte, is_at, is_as_it_stood}
 use Rattle.atomic_histories.specs.Operations.{Opened, none_opened, opened_after, opened_by, form_fault}
 use Rattle.atomic_histories.specs.Law.{OpenLoad, UnitMemory, HiddenStep, MayBe, starts, steps, sees, untouched, is_load, is_got}
 use Rattle.atomic_histories.specs.Law.{with_load, with_store, seen, unit_at}
 use Rattle.atomic_histories.specs.Law.{is_formed, IsAtomicAt}
 use Rattle.atomic_histories.specs.Stands.{Each}
 use Rattle.atomic_histories.proofs.Lists.{one_each, all_each, one_elim, each_from_all}
-use Rattle.atomic_histories.proofs.Links.{none_is, store_allowed}
+use Rattle.atomic_histories.proofs.Links.{none_is, is_allowed, reads}
+use Rattle.atomic_histories.proofs.Bits.{stored_from_first}
+use Rattle.std.specs.Int.{bit_at}
+use Rattle.std.proofs.Math.Bool.{or-true}
 use Rattle.history_laws.specs.Laws.{IsByte, ReturnsBytes, IsUnitSize, AtomicIsRegular}
 use Rattle.history_laws.proofs.Lists.{each_find, each_get}
 use Rattle.history_laws.proofs.Pieces.{Marked, is_number, IsSome}
@@ -92,16 +96,16 @@ module _ (image : List ℕ) (rest : Rest) (unit : UnitPlace) (j : ℕ) (within :
       → form_fault o event ≡ None → All (IsTimely w.moment) w.stores
       → Fits image rest unit j w.stores w.moment ks m → seen unit m event ≡ Some n
       → Fits image rest unit j (windows_after w event).stores (w.moment + 1) (marked_after w.moment ks event) n
-  fits_event o w ks m n (LoadRequest k a len) g f t fits e =
-      subst (Fits image rest unit j w.stores (w.moment + 1) (marked_after w.moment ks (LoadRequest k a len))) (same_Some (if is_at unit a
-      len then with_load k a m else m) n e)
-      (fits_requested image rest unit j w.stores w.moment ks m k a len within fits (is_at unit a len) refl)
+  fits_event o w ks m n (LoadRequest k a len en) g f t fits e =
+      subst (Fits image rest unit j w.stores (w.moment + 1) (marked_after w.moment ks (LoadRequest k a len en))) (same_Some (if is_at unit a
+      len then with_load k (reads_from a en) m else m) n e)
+      (fits_requested image rest unit j w.stores w.moment ks m k a len en within fits (is_at unit a len) refl)
   fits_event o w ks m n (LoadResponse k bytes) g f t fits e =
       let p = cond_some _ _ n e in
       subst (Fits image rest unit j w.stores (w.moment + 1) (marked_after w.moment ks (LoadResponse k bytes))) p.1 (fits_answered image rest
       unit j w.stores w.moment ks m k fits)
   fits_event o w ks m n (StoreRequest k a bytes es) g f t fits e =
-      let p = store_allowed _ _ _ f in
+      let p = is_allowed _ _ _ f in
       let word = at_unit unit (stored_byte a bytes.now es) in
       subst (Fits image rest unit j (windows_after w (StoreRequest k a bytes es)).stores (w.moment + 1) ks) (same_Some (if list_any is_some
       word then with_store k word m else m) n e)
@@ -145,38 +149,30 @@ module _ (image : List ℕ) (rest : Rest) (unit : UnitPlace) (j : ℕ) (within :
 
   -- A load may return what it is answered. ----
 
-  got_word : (bytes : List ℕ) (address : ℕ) (got : Option (List (Option ℕ))) → is_got unit address bytes got ≡ true
-      → (word : List (Option ℕ)) × ((got ≡ Some word) × (is_as_it_stood (lane word j) (byte_for address bytes (unit.first + j)) ≡ true))
+  got_word : (bytes : List ℕ) (address : LoadAddress) (got : Option (List (Option ℕ))) → is_got unit address bytes got ≡ true
+      → (word : List (Option ℕ)) × ((got ≡ Some word) × (is_as_it_stood (lane word j) (read_byte address bytes (unit.first + j)) ≡ true))
   got_word bytes address None h = cc
   got_word bytes address (Some word) h = (word, (refl, word_lane unit.first word address bytes j h))
 
   allowed_got : (stores : List StoreByte) (k : Marked ℕ) (got : Option (List (Option ℕ)))
       → IsAllowed image rest unit j stores k.operation.number k.mark got → (word : List (Option ℕ)) → got ≡ Some word
       → (b : ℕ) → IsByte rest b → is_as_it_stood (lane word j) (Some b) ≡ true
-      → may_return_byte image rest stores (record { number = k.operation.number; address = unit.first + j; began = k.mark }) b ≡ true
+      → may_return_byte image rest stores (load_byte k.operation (unit.first + j) k.mark) b ≡ true
   allowed_got stores k got h word e b small i = grind arith
 
   allowed_load : (past : List HistoryEvent) (n : ℕ) (bytes : List ℕ) (k : Marked ℕ) → k.operation.number ≡ n → (b : ℕ) → IsByte rest b
-      → byte_for k.operation.address bytes (unit.first + j) ≡ Some b
+      → read_byte (reads k.operation) bytes (unit.first + j) ≡ Some b
       → (l : OpenLoad) → IsLoad image rest unit j (windows_by image rest past).stores k l
       → (not (is_load n l) || is_got unit l.address bytes l.got) ≡ true
-      → may_return_byte image rest (windows_by image rest past).stores (record {
-        number = k.operation.number;
-        address = unit.first + j;
-        began = k.mark;
-      }) b ≡ true
+      → may_return_byte image rest (windows_by image rest past).stores (load_byte k.operation (unit.first + j) k.mark) b ≡ true
   allowed_load past n bytes k named b small is_b l q h = grind (arith, eq-eqb, l.number, got_word, l.address, l.got, lane, allowed_got)
 
   pub allowed_byte : (past : List HistoryEvent) (n : ℕ) (bytes : Bor (List ℕ))
       → IsAtomicAt image rest unit (past ++ LoadResponse n bytes ∷ []) → is_formed none_opened past ≡ true
       → (k : Marked ℕ) → find (is_number n) (marks_by image rest past) ≡ Some k → k.operation.address ≤ unit.first + j
       → unit.first + j < k.operation.address + k.operation.length → k.operation.number ≡ n
-      → (b : ℕ) → IsByte rest b → byte_for k.operation.address bytes.now (unit.first + j) ≡ Some b
-      → may_return_byte image rest (windows_by image rest past).stores (record {
-        number = k.operation.number;
-        address = unit.first + j;
-        began = k.mark;
-      }) b ≡ true
+      → (b : ℕ) → IsByte rest b → read_byte (reads k.operation) bytes.now (unit.first + j) ≡ Some b
+      → may_return_byte image rest (windows_by image rest past).stores (load_byte k.operation (unit.first + j) k.mark) b ≡ true
   allowed_byte past n bytes a f k found low high named b small is_b =
       let w = windows_by image rest past in
       let s = seen_last _ unit past _ _ a.0 a.1 refl in
@@ -194,6 +190,20 @@ module _ (image : List ℕ) (rest : Rest) (unit : UnitPlace) (j : ℕ) (within :
 
 -- The law. ----
 
+-- a byte that is enabled is read
+read_inside : (o : Operation) (bs : List ℕ) (i : ℕ) → (bit_at o.enables i == 1) ≡ true
+    → read_byte (reads o) bs (o.address + i) ≡ slice_get bs i
+read_inside o bs i h = stored_from_first o.address bs o.enables i ∙ rw h refl
+
+-- and one that isn't may be anything
+answered_byte : (w : Windows) (k : Marked ℕ) (i b : ℕ)
+    → ((bit_at k.operation.enables i == 1) ≡ true
+    → may_return_byte w.image w.rest w.stores (load_byte k.operation (k.operation.address + i) k.mark) b ≡ true)
+    → may_return w (load_byte k.operation (k.operation.address + i) k.mark) b ≡ true
+answered_byte w k i b h =
+    let place : k.operation.address + i - k.operation.address ≡ i = omega arith in
+    elim (cases_Bool (bit_at k.operation.enables i == 1)) [ inl t ↦ rw (h t) (or-true _) | inr f ↦ rw (place, f) refl ]
+
 each_named : (ks : List (Marked ℕ)) (k : Marked ℕ) (n : ℕ) → find (is_number n) ks ≡ Some k → k.operation.number ≡ n
 each_named [] k n h = cc
 each_named (x ∷ ks) k n h = elim (cases_Bool _) [
@@ -208,37 +218,29 @@ module _ (image : List ℕ) (rest : Rest) (size : ℕ) (sized : IsUnitSize size)
       ++ LoadResponse n bytes ∷ [])) → is_formed none_opened past ≡ true
       → (k : Marked ℕ) → find (is_number n) (marks_by image rest past) ≡ Some k → k.operation.number ≡ n → (i b : ℕ)
       → slice_get bytes.now i ≡ Some b → i < k.operation.length → IsByte rest b
-      → may_return_byte image rest (windows_by image rest past).stores (record {
-        number = k.operation.number;
-        address = k.operation.address
-            + i;
-        began = k.mark;
-      }) b ≡ true
-  allowed_at past n bytes a f k found named i b e l small =
+      → (bit_at k.operation.enables i == 1) ≡ true
+      → may_return_byte image rest (windows_by image rest past).stores (load_byte k.operation (k.operation.address + i) k.mark) b ≡ true
+  allowed_at past n bytes a f k found named i b e l small enabled =
       let at = k.operation.address + i in
       let some : 0 < size = let s = sized.0 in omega arith in
       let within : at % size < size = mod-lt at some in
       let lane_of : at % size < 8 = let s = sized.1 in omega arith in
       let place : at / size * size + at % size ≡ at = div-add-mod' at size in
-      subst (λ x. may_return_byte image rest (windows_by image rest past).stores (record {
-        number = k.operation.number;
-        address = x;
-        began =
-            k.mark;
-      }) b ≡ true) place
+      subst (λ x. may_return_byte image rest (windows_by image rest past).stores (load_byte k.operation x k.mark) b ≡ true) place
       (allowed_byte image rest _ _ within lane_of past n bytes (a (at / size)) f k found (omega arith)
       (omega arith) named b small
-      (ap (byte_for k.operation.address bytes.now) place ∙ (byte_inside k.operation.address bytes.now i ∙ e)))
+      (ap (read_byte (reads k.operation) bytes.now) place ∙ (read_inside k.operation bytes.now i enabled ∙ e)))
 
   no_regular_fault : (past : List HistoryEvent) (event : HistoryEvent) → ((k : ℕ) → IsAtomicAt image rest (unit_at size k) (past
       ++ event ∷ [])) → is_formed none_opened past ≡ true → form_fault (opened_by past) event ≡ None
       → ReturnsBytes rest event → fault (windows_by image rest past) event ≡ None
-  no_regular_fault past (LoadRequest n a len) m f g r =
+  no_regular_fault past (LoadRequest n a len en) m f g r =
       let w = windows_by image rest past in
-      ap (load_request_fault (is_inside a len)) (loads_any load_byte number_of its_number (marks_by image rest past) w.loads (opened_by
+      ap (request_fault (is_inside a len) (enables_any len en)) (loads_any load_byte number_of its_number
+      (marks_by image rest past) w.loads (opened_by
       past).loads (agrees_by image rest past f).loads n) ∙ g
   no_regular_fault past (StoreRequest n a bytes e) m f g r =
-      ap (store_request_fault (is_inside a (length bytes.now)) (has_enabled bytes.now e)) ((agrees_by image rest past f).stores n) ∙ g
+      ap (request_fault (is_inside a (length bytes.now)) (has_enabled bytes.now e)) ((agrees_by image rest past f).stores n) ∙ g
   no_regular_fault past (StoreResponse n) m f g r = ap store_response_fault ((agrees_by image rest past f).stores n) ∙ g
   no_regular_fault past (LoadResponse n bytes) m f g r =
       let w = windows_by image rest past in
@@ -253,11 +255,11 @@ module _ (image : List ℕ) (rest : Rest) (size : ℕ) (sized : IsUnitSize size)
       let same = same_image (first_windows image rest) past in
       ap (λ ls. load_response_fault (may_return w) ls bytes.now) u.1.1.1
       ∙ no_fault load_byte number_of its_number _ k bytes.now some long
-      (λ i b e l. rw (
+      (λ i b e l. answered_byte w k i b (λ enabled. rw (
         same.0,
         same.1,
       ) (allowed_at past n bytes m f k u.1.0 named i b e l (each_get (IsByte rest) bytes.now i b (each_from_all (IsByte rest) bytes.now
-      r) e)))
+      r) e) enabled)))
 
   regular_from : (past future : List HistoryEvent) → ((k : ℕ) → IsAtomicAt image rest (unit_at size k) (past ++ future))
       → is_formed none_opened past ≡ true → is_formed (opened_by past) future ≡ true → Each (ReturnsBytes rest) future

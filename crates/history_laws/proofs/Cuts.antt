@@ -21,7 +21,8 @@ use Rattle.memory_histories.proofs.Lists.{filter-map}
 use Rattle.memory_histories.proofs.Requests.{store_bytes-new}
 use Rattle.atomic_histories.specs.declared.unit.OpenStore.{OpenStore}
 use Rattle.atomic_histories.specs.declared.unit.UnitPlace.{UnitPlace}
-use Rattle.atomic_histories.specs.Words.{at_unit, at_lane, stored_byte, is_at, written_byte, written}
+use Rattle.atomic_histories.specs.declared.unit.LoadAddress.{LoadAddress}
+use Rattle.atomic_histories.specs.Words.{at_unit, at_lane, stored_byte, reads_from, is_at, written_byte, written}
 use Rattle.atomic_histories.specs.Operations.{Opened, none_opened, opened_by, has_number, answer_fault, form_fault}
 use Rattle.atomic_histories.specs.Law.{OpenLoad, UnitMemory, HiddenStep, MayBe, starts, steps, sees, untouched, done_store, done_load}
 use Rattle.atomic_histories.specs.Law.{is_store, is_load, is_got, may_answer_load, may_answer_store, with_load, with_store}
@@ -30,7 +31,7 @@ use Rattle.atomic_histories.specs.Stands.{Each, One}
 use Rattle.atomic_histories.proofs.Lists.{each_weaker, each_append, each_map, each_both, each_filter, each_unmap, each_replace, each_at}
 use Rattle.atomic_histories.proofs.Lists.{all_each, each_all, one_weaker, one_left, one_last, one_map, one_elim, one_each, one_filter}
 use Rattle.atomic_histories.proofs.Lists.{each_from_all, filter_swap}
-use Rattle.atomic_histories.proofs.Links.{store_allowed}
+use Rattle.atomic_histories.proofs.Links.{is_allowed, reads}
 use Rattle.atomic_histories.proofs.MayLaws.{then_it}
 use Rattle.history_laws.specs.Cuts.{Cut, what_stays, is_alike, has_mark_of_request, lacks_giver, is_within, has_givers}
 use Rattle.history_laws.specs.Cuts.{is_closed_from, CutIsAtomicAt, CutRefutes}
@@ -44,7 +45,7 @@ use Rattle.history_laws.proofs.Fits.{done_old}
 use Rattle.history_laws.proofs.Fits.{done_with, none_under, last_same, last_done, last_requested, last_answered, after_here}
 use Rattle.history_laws.proofs.Sources.{IsLane, IsSource, GotAlike, none_kept, IsFree, kept_got, got_more, source_requested}
 use Rattle.history_laws.proofs.Sources.{source_answered, IsClosedAt, stays_more, closed_parts, closed_over}
-use Rattle.history_laws.proofs.Agrees.{formed_parts, load_byte, number_of, its_number, Agrees, marks_more}
+use Rattle.history_laws.proofs.Agrees.{formed_parts, load_byte, any_byte, number_of, its_number, Agrees, marks_more}
 use Rattle.history_laws.proofs.Agrees.{each_first}
 use Rattle.history_laws.proofs.Atomic.{windows_by, marks_by, timely_by, agrees_by, windows_more, fits}
 
@@ -64,7 +65,7 @@ record CutStore : Type 0 where
 -- an open load, and what it got of the history, and of what stays
 record CutLoad : Type 0 where
   pub number : ℕ
-  pub address : ℕ
+  pub address : LoadAddress
   pub began : ℕ
   pub got : Option (List (Option ℕ))
   pub kept : Option (List (Option ℕ))
@@ -119,7 +120,7 @@ module _ (image : List ℕ) (rest : Rest) (unit : UnitPlace) (stays : Cut) where
       → IsLane unit j × One (HasByteAt stores s j b) stores)
 
   abbrev IsOf : CutLoad → Marked ℕ → Type 0
-  IsOf l k = (k.operation.number ≡ l.number) × ((k.operation.address ≡ l.address) × (k.mark ≡ l.began))
+  IsOf l k = (k.operation.number ≡ l.number) × ((reads k.operation ≡ l.address) × (k.mark ≡ l.began))
 
   abbrev IsCutLoad : List StoreByte → ℕ → List (Marked ℕ) → CutLoad → Type 0
   IsCutLoad stores moment ks l = (l.began < moment) × (One (IsOf l) ks × GotAlike unit stays stores l.began l.got l.kept)
@@ -192,7 +193,7 @@ module _ (image : List ℕ) (rest : Rest) (unit : UnitPlace) (stays : Cut) where
   answered_test n moment l = not (is_of n l) || is_alike (stays l.began) (stays moment)
 
   same_mark : (n moment : ℕ) (l : CutLoad) (k : Marked ℕ) → IsOf l k
-      → answered_test n moment (load_byte k.operation.number k.operation.address k.mark) ≡ true → (l.number == n) ≡ true
+      → answered_test n moment (load_byte k.operation k.operation.address k.mark) ≡ true → (l.number == n) ≡ true
       → stays l.began ≡ stays moment
   same_mark n moment l k q h e =
       let hit : (k.operation.number == n) ≡ true = ap (λ x. x == n) q.0 ∙ e in
@@ -476,12 +477,12 @@ module _ (image : List ℕ) (rest : Rest) (unit : UnitPlace) (stays : Cut) where
         → Each (IsCutLoad w.stores (w.moment + 1) (ks ++ k ∷ [])) ls
     asked k ls h = each_weaker _ _ (λ l q. (omega arith, (one_left (IsOf l) ks _ q.1.0, q.1.1))) ls h
 
-    asks : (m : UnitMemory) (n a len : ℕ) → Here m → (d : Bool) → is_at unit a len ≡ d
-        → After (LoadRequest n a len) (if d then with_load n a m else m)
-    asks m n a len c true d =
+    asks : (m : UnitMemory) (n a len en : ℕ) → Here m → (d : Bool) → is_at unit a len ≡ d
+        → After (LoadRequest n a len en) (if d then with_load n (reads_from a en) m else m)
+    asks m n a len en c true d =
         let b = c.both in
-        let k : Marked ℕ = record { operation = record { number = n; address = a; length = len }; mark = w.moment } in
-        let l : CutLoad = record { number = n; address = a; began = w.moment; got = None; kept = None } in
+        let k : Marked ℕ = record { operation = record { number = n; address = a; length = len; enables = en }; mark = w.moment } in
+        let l : CutLoad = record { number = n; address = reads_from a en; began = w.moment; got = None; kept = None } in
         let next : Both = record { word = b.word; kept = b.kept; stores = b.stores; loads = b.loads ++ l ∷ [] } in
         let left : List OpenLoad → UnitMemory = λ ls. record {
           word = b.kept;
@@ -491,7 +492,7 @@ module _ (image : List ℕ) (rest : Rest) (unit : UnitPlace) (stays : Cut) where
         record {
           both = next;
           is = ap (λ ls. record { word = b.word; stores = map store_of b.stores; loads = ls }) (map-append whole_load b.loads (l ∷ []))
-              ∙ ap (with_load n a) c.is;
+              ∙ ap (with_load n (reads_from a en)) c.is;
           holds = record {
             wide = c.holds.wide;
             lanes = c.holds.lanes;
@@ -501,18 +502,18 @@ module _ (image : List ℕ) (rest : Rest) (unit : UnitPlace) (stays : Cut) where
               tt,
             );
           };
-          may = keeps_on start past (LoadRequest n a len) (kept b) (kept next) (stays w.moment)
+          may = keeps_on start past (LoadRequest n a len en) (kept b) (kept next) (stays w.moment)
               (λ e. rw d (ap (λ ls. Some (left ls)) (sym (kept_with kept_load load_stays b.loads l [] e))))
               (λ e. ap (λ ls. left (map kept_load ls)) (sym (kept_without load_stays b.loads l [] e ∙
               ap (filter load_stays) (append-nil b.loads)))) c.may;
         }
-    asks m n a len c false d =
+    asks m n a len en c false d =
         let b = c.both in
         record {
           both = b;
           is = c.is;
           holds = record { wide = c.holds.wide; lanes = c.holds.lanes; bytes = c.holds.bytes; loads = asked _ b.loads c.holds.loads };
-          may = keeps_on start past (LoadRequest n a len) (kept b) (kept b) (stays w.moment) (λ e. rw d refl) (λ e. refl) c.may;
+          may = keeps_on start past (LoadRequest n a len en) (kept b) (kept b) (stays w.moment) (λ e. rw d refl) (λ e. refl) c.may;
         }
 
     -- A load is answered. ----
@@ -523,7 +524,7 @@ module _ (image : List ℕ) (rest : Rest) (unit : UnitPlace) (stays : Cut) where
         let test = answered_test n w.moment in
         let first = each_first test ks g.loads.each_some (subst (λ x. list_all test x ≡ true) g.loads.bytes h) in
         each_weaker _ _
-        (λ l q e. one_elim _ _ ks (one_each (IsOf l) (λ k. test (load_byte k.operation.number k.operation.address k.mark) ≡ true) ks q.1.0
+        (λ l q e. one_elim _ _ ks (one_each (IsOf l) (λ k. test (load_byte k.operation k.operation.address k.mark) ≡ true) ks q.1.0
         first) (λ k r. same_mark n w.moment l k r.0 r.1 e)) ls each
 
     free : (o : Opened) (n : ℕ) (bytes : List ℕ) → Agrees o w ks → answer_fault (find (has_number n) o.loads) (length bytes) ≡ None
@@ -535,23 +536,24 @@ module _ (image : List ℕ) (rest : Rest) (unit : UnitPlace) (stays : Cut) where
         let r = answer_formed _ _ f in
         let u = loads_under load_byte number_of its_number ks w.loads o.loads g.loads n r.0 r.1.0 in
         let k = u.0 in
-        let same = same_load ks n k (λ x. (x.operation.address ≡ l.address) × (x.mark ≡ l.began)) g.loads.different u.1.0
-        (one_weaker (IsOf l) (λ x. (x.operation.number ≡ n) × ((x.operation.address ≡ l.address) × (x.mark ≡ l.began))) (λ x p.
+        let same = same_load ks n k (λ x. (reads x.operation ≡ l.address) × (x.mark ≡ l.began)) g.loads.different u.1.0
+        (one_weaker (IsOf l) (λ x. (x.operation.number ≡ n) × ((reads x.operation ≡ l.address) × (x.mark ≡ l.began))) (λ x p.
         (p.0 ∙ eqb-true l.number n e, p.1)) ks of) in
         let at = unit.first + j in
         let got = then_it _ _ b its in
-        let low = leb-true l.address at got.0 in
-        let i = at - l.address in
-        let inside = slice_get_within bytes i b got.1 in
+        let low = leb-true l.address.first at got.0 in
+        let i = at - l.address.first in
+        let read = then_it _ _ b got.1 in
+        let inside = slice_get_within bytes i b read.1 in
         let long : i < k.operation.length = subst (λ x. i < x) (sym (ap (λ x. x.length) u.1.1.0 ∙ r.1.1)) inside in
         let all = all_each (λ p. may p.0 p.1) _ (subst (λ ls. list_all (λ p. may p.0 p.1) (zip ls bytes) ≡ true) u.1.1.1 h) in
         let there =
-        paid_at load_byte number_of its_number may k.operation.number k.mark k.operation.length k.operation.address bytes all i b got.1
+        paid_at load_byte number_of its_number may k.operation k.mark k.operation.length k.operation.address bytes all i b read.1
         long in
-        let place : k.operation.address + i ≡ at = (let s = same.0 in omega arith) in
-        let here : not (is_within unit at && lacks_giver stays w.stores (load_byte 0 at l.began) b) ≡ true =
-        subst (λ t. not (is_within unit at && lacks_giver stays w.stores (load_byte 0 at t) b) ≡ true) same.1
-        (subst (λ x. not (is_within unit x && lacks_giver stays w.stores (load_byte 0 x k.mark) b) ≡ true) place there) in
+        let place : k.operation.address + i ≡ at = (let s = ap (λ x. x.first) same.0 in omega arith) in
+        let here : not (is_within unit at && lacks_giver stays w.stores (any_byte at l.began) b) ≡ true =
+        subst (λ t. not (is_within unit at && lacks_giver stays w.stores (any_byte at t) b) ≡ true) same.1
+        (subst (λ x. not (is_within unit x && lacks_giver stays w.stores (any_byte x k.mark) b) ≡ true) place there) in
         let bound = lane_of.0 in
         let within : is_within unit at ≡ true = and_from _ _ (le-leb unit.first at (omega arith)) (lt-ltb at (unit.first + unit.size) (omega
         arith)) in
@@ -724,13 +726,13 @@ module _ (image : List ℕ) (rest : Rest) (unit : UnitPlace) (stays : Cut) where
 
     sees_event : (o : Opened) (m p : UnitMemory) (event : HistoryEvent) → Here m → AreFits m → Agrees o w ks → form_fault o event ≡ None
         → All (IsTimely w.moment) w.stores → IsClosedAt unit stays w event → seen unit m event ≡ Some p → After event p
-    sees_event o m p (LoadRequest n a len) c fit g f timely closed e =
-        subst (After (LoadRequest n a len)) (same_Some (if is_at unit a len then with_load n a m else m) p e)
-        (asks m n a len c (is_at unit a len) refl)
+    sees_event o m p (LoadRequest n a len en) c fit g f timely closed e =
+        subst (After (LoadRequest n a len en)) (same_Some (if is_at unit a len then with_load n (reads_from a en) m else m) p e)
+        (asks m n a len en c (is_at unit a len) refl)
     sees_event o m p (LoadResponse n bytes) c fit g f timely closed e = answers_load o m p n bytes c g f closed.0 closed.1 e
     sees_event o m p (StoreRequest n a bytes es) c fit g f timely closed e =
         let word = at_unit unit (stored_byte a bytes.now es) in
-        let allowed = store_allowed _ _ _ f in
+        let allowed = is_allowed _ _ _ f in
         subst (After (StoreRequest n a bytes es)) (same_Some (if list_any is_some word then with_store n word m else m) p e)
         (stores_ask m n a bytes es c fit (g.stores n ∙ allowed.1.1) (list_any is_some word) refl)
     sees_event o m p (StoreResponse n) c fit g f timely closed e = answers_store m p n c fit timely closed.0 e

@@ -12,7 +12,8 @@ use Rattle.memory_histories.specs.declared.events.HistoryEvent.TheVariants.{Load
 use Rattle.memory_histories.proofs.Lists.{filter-map}
 use Rattle.atomic_histories.specs.declared.unit.OpenStore.{OpenStore}
 use Rattle.atomic_histories.specs.declared.unit.UnitPlace.{UnitPlace}
-use Rattle.atomic_histories.specs.Words.{at_unit, stored_byte, is_at, is_word_of}
+use Rattle.atomic_histories.specs.declared.unit.LoadAddress.{LoadAddress}
+use Rattle.atomic_histories.specs.Words.{at_unit, stored_byte, reads_from, is_at, is_word_of}
 use Rattle.atomic_histories.specs.Law.{OpenLoad, UnitMemory, HiddenStep, MayBe, starts, steps, sees, done_load, is_load, is_got}
 use Rattle.atomic_histories.specs.Law.{may_answer_load, may_answer_store, with_load, with_store, without_store, seen}
 use Rattle.atomic_histories.specs.Stands.{Each}
@@ -28,7 +29,7 @@ module _ (unit : UnitPlace) where
   and_then start m k past events r (sees es event h n q e) =
       subst (λ x. MayBe unit start x n) (append_assoc past es (event ∷ [])) (sees (past ++ es) event h n (and_then start m h past es r q) e)
 
-  module _ (tag address : ℕ) where
+  module _ (tag : ℕ) (address : LoadAddress) where
     -- a load, where the one of the tag got this, whatever it got
     abbrev pub late_load : Option (List (Option ℕ)) → OpenLoad → OpenLoad
     late_load got l = record {
@@ -54,7 +55,7 @@ module _ (unit : UnitPlace) where
 
     -- events of other loads, of stores, and the request of this load if it got nothing yet
     abbrev pub Suits : Option (List (Option ℕ)) → HistoryEvent → Type 0
-    Suits got (LoadRequest n a len) = ((n == tag) ≡ false) ⊎ ((a ≡ address) × (got ≡ None))
+    Suits got (LoadRequest n a len e) = ((n == tag) ≡ false) ⊎ ((reads_from a e ≡ address) × (got ≡ None))
     Suits got (LoadResponse n bytes) = (n == tag) ≡ false
     Suits got event = Unit {0}
 
@@ -102,12 +103,12 @@ module _ (unit : UnitPlace) where
 
     -- Events. ----
 
-    late_new : (got : Option (List (Option ℕ))) (n a : ℕ) → ((n == tag) ≡ false) ⊎ ((a ≡ address) × (got ≡ None))
+    late_new : (got : Option (List (Option ℕ))) (n : ℕ) (a : LoadAddress) → ((n == tag) ≡ false) ⊎ ((a ≡ address) × (got ≡ None))
         → late_load got (record { number = n; address = a; got = None }) ≡ record { number = n; address = a; got = None }
     late_new got n a (inl h) = rw h refl
     late_new got n a (inr h) = elim (cases_Bool (n == tag)) [ inl e ↦ rw (e, h.0, h.1) refl | inr e ↦ rw e refl ]
 
-    sees_load : (got : Option (List (Option ℕ))) (m : UnitMemory) (n a : ℕ) (t : Bool)
+    sees_load : (got : Option (List (Option ℕ))) (m : UnitMemory) (n : ℕ) (a : LoadAddress) (t : Bool)
         → ((n == tag) ≡ false) ⊎ ((a ≡ address) × (got ≡ None))
         → (if t then with_load n a (late got m) else late got m) ≡ late got (if t then with_load n a m else m)
     sees_load got m n a true h =
@@ -142,8 +143,9 @@ module _ (unit : UnitPlace) where
 
     sees_late : (got : Option (List (Option ℕ))) (m k : UnitMemory) (event : HistoryEvent) → Suits got event → seen unit m event ≡ Some k
         → seen unit (late got m) event ≡ Some (late got k)
-    sees_late got m k (LoadRequest n a len) s e =
-        ap Some (sees_load got m n a _ s ∙ ap (late got) (same_Some (if is_at unit a len then with_load n a m else m) k e))
+    sees_late got m k (LoadRequest n a len en) s e =
+        ap Some (sees_load got m n (reads_from a en) _ s
+        ∙ ap (late got) (same_Some (if is_at unit a len then with_load n (reads_from a en) m else m) k e))
     sees_late got m k (LoadResponse n bytes) s e =
         let p = cond_some _ _ k e in
         let may = answers_other got m n bytes.now s p.0 in

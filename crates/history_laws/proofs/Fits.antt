@@ -6,7 +6,7 @@ use Rattle.std.specs.Prelude.{is_some}
 use Rattle.std.specs.List.{All, filter, list_any}
 use Rattle.std.proofs.lemmas.Bool.{cases_Bool, and_parts, and_from, lt-ltb, eq-eqb, false_from_ne_true, both_ways}
 use Rattle.std.proofs.Math.Bool.{or-true}
-use Rattle.atomic_histories.proofs.Links.{none_is}
+use Rattle.atomic_histories.proofs.Links.{none_is, reads}
 use Rattle.memory_histories.specs.declared.events.Rest.{Rest}
 use Rattle.memory_histories.specs.declared.events.Rest.TheVariants.{Zeros, Unknown}
 use Rattle.memory_histories.specs.declared.windows.StoreByte.{StoreByte}
@@ -18,7 +18,8 @@ use Rattle.memory_histories.proofs.Live.{left_answered, covered_answered}
 use Rattle.memory_histories.proofs.Requests.{IsNew, store_bytes-new, left_requested, covered_requested}
 use Rattle.atomic_histories.specs.declared.unit.OpenStore.{OpenStore}
 use Rattle.atomic_histories.specs.declared.unit.UnitPlace.{UnitPlace}
-use Rattle.atomic_histories.specs.Words.{at_unit, first_byte, initial_byte, stored_byte, is_at, written_byte, written, is_as_it_stood}
+use Rattle.atomic_histories.specs.Words.{at_unit, first_byte, initial_byte, stored_byte, reads_from, is_at, written_byte, written}
+use Rattle.atomic_histories.specs.Words.{is_as_it_stood}
 use Rattle.atomic_histories.specs.Law.{OpenLoad, UnitMemory, done_store, done_load, is_store, may_answer_store, with_load}
 use Rattle.atomic_histories.specs.Law.{with_store, without_load, without_store}
 use Rattle.atomic_histories.specs.Stands.{Each, One}
@@ -117,14 +118,14 @@ module _ (image : List ℕ) (rest : Rest) (unit : UnitPlace) (j : ℕ) where
 
   -- an open load may return what it got here
   abbrev pub may : List StoreByte → ℕ → ℕ → ℕ → Bool
-  may stores n t b = may_return_byte image rest stores (record { number = n; address = here; began = t }) b
+  may stores n t b = may_return_byte image rest stores (record { number = n; address = here; began = t; enabled = true }) b
 
   abbrev pub IsAllowed : List StoreByte → ℕ → ℕ → Option (List (Option ℕ)) → Type 0
   IsAllowed stores n t None = Unit {0}
   IsAllowed stores n t (Some word) = (b : ℕ) → IsByte rest b → is_as_it_stood (lane word j) (Some b) ≡ true → may stores n t b ≡ true
 
   abbrev pub IsLoad : List StoreByte → Marked ℕ → OpenLoad → Type 0
-  IsLoad stores k o = (o.number ≡ k.operation.number) × ((o.address ≡ k.operation.address)
+  IsLoad stores k o = (o.number ≡ k.operation.number) × ((o.address ≡ reads k.operation)
       × IsAllowed stores k.operation.number k.mark o.got)
 
   abbrev pub HasLoad : List StoreByte → ℕ → List OpenLoad → Marked ℕ → Type 0
@@ -141,7 +142,7 @@ module _ (image : List ℕ) (rest : Rest) (unit : UnitPlace) (j : ℕ) where
   -- What stands here may be returned. ----
 
   uncovered : (os : List OpenStore) (stores : List StoreByte) (n t : ℕ) → Each (λ s. s.address ≡ here → IsDone os s → ⊥) stores
-      → is_covered stores (record { number = n; address = here; began = t }) ≡ false
+      → is_covered stores (record { number = n; address = here; began = t; enabled = true }) ≡ false
   uncovered os stores n t h = grind (arith, any_none, each_weaker, false_from_ne_true, and_parts, eqb-true, before_some)
 
   pub not_overwritten : (os : List OpenStore) (stores : List StoreByte) (s : StoreByte) (t : ℕ) → s.address ≡ here
@@ -277,13 +278,14 @@ module _ (image : List ℕ) (rest : Rest) (unit : UnitPlace) (j : ℕ) where
       → Each (HasLoad stores (moment + 1) (loads ++ more)) ks
   later stores moment loads more ks h = grind (arith, each_weaker, one_left)
 
-  pub fits_requested : (stores : List StoreByte) (moment : ℕ) (ks : List (Marked ℕ)) (m : UnitMemory) (n a len : ℕ) → j < unit.size
+  pub fits_requested : (stores : List StoreByte) (moment : ℕ) (ks : List (Marked ℕ)) (m : UnitMemory) (n a len en : ℕ) → j < unit.size
       → Fits stores moment ks m → (t : Bool) → is_at unit a len ≡ t
       → Fits stores (moment + 1) (ks
-      ++ record { operation = record { number = n; address = a; length = len }; mark = moment } ∷ []) (if t then with_load n a m else m)
-  fits_requested stores moment ks m n a len jl f true e =
+      ++ record { operation = record { number = n; address = a; length = len; enables = en }; mark = moment } ∷ [])
+      (if t then with_load n (reads_from a en) m else m)
+  fits_requested stores moment ks m n a len en jl f true e =
       let k : Marked ℕ = record { operation = grind arith; mark = moment } in
-      let o : OpenLoad = record { number = n; address = a; got = None } in
+      let o : OpenLoad = record { number = n; address = reads_from a en; got = None } in
       record {
         wide = f.wide;
         word = f.word;
@@ -292,7 +294,7 @@ module _ (image : List ℕ) (rest : Rest) (unit : UnitPlace) (j : ℕ) where
         has_loads = each_append _ ks _ (later stores moment m.loads (o ∷ []) ks f.has_loads)
             ((omega arith, λ p q. one_last _ _ o (refl, (refl, tt))), tt);
       }
-  fits_requested stores moment ks m n a len jl f false e =
+  fits_requested stores moment ks m n a len en jl f false e =
       let k : Marked ℕ = record { operation = grind arith; mark = moment } in
       record {
         wide = f.wide;
@@ -342,7 +344,7 @@ module _ (image : List ℕ) (rest : Rest) (unit : UnitPlace) (j : ℕ) where
   grows : (stores added : List StoreByte) (t : ℕ) → All (IsNew t) added → (n u b : ℕ) → may stores n u b ≡ true → may (stores
       ++ added) n u b ≡ true
   grows stores added t new n u b h =
-      let l : LoadByte = record { number = n; address = here; began = u } in
+      let l : LoadByte = record { number = n; address = here; began = u; enabled = true } in
       rw (left_requested t stores added new l b, covered_requested t stores added new l)
       (or_more _ (list_any (λ s.
       (s.address == here) && (s.byte == b)) added) _ h)

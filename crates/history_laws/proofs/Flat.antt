@@ -4,6 +4,7 @@ use Rattle.std.proofs.Common.{if◌then◌else◌, nat_lt, List, [], ◌∷◌, 
 use Rattle.std.proofs.Common.{refl, sym, ap, ◌∙◌, subst, append-nil, append_assoc, eq-eqb, eqb-true, arith}
 use Rattle.std.specs.Prelude.{is_some, IsTrue}
 use Rattle.std.specs.Borrow.{Bor}
+use Rattle.std.specs.Int.{bit_at}
 use Rattle.std.specs.List.{filter, find, list_any, range_with_len, zip, position, prefix_len}
 use Rattle.std.proofs.lemmas.Bool.{cases_Bool, cases_lt, cases_eq, lt-ltb, ltb-true, lt-leb, leb-true, ne_eqb, false_from_ne_true}
 use Rattle.std.proofs.Math.Path.{fun_ext}
@@ -11,7 +12,7 @@ use Rattle.std.proofs.Math.Bool.{or_assoc, or-true, or-false}
 use Rattle.std.proofs.lemmas.Bool.{both_ways}
 use Rattle.atomic_histories.proofs.Lanes.{none_asked}
 use Rattle.atomic_histories.proofs.Bits.{stored_from_first}
-use Rattle.atomic_histories.proofs.Links.{load_allowed}
+use Rattle.atomic_histories.proofs.Links.{is_allowed, reads}
 use Rattle.atomic_histories.proofs.MayLaws.{then_it}
 use Rattle.memory_histories.specs.declared.events.HistoryEvent.{HistoryEvent}
 use Rattle.memory_histories.specs.declared.events.HistoryEvent.TheVariants.{LoadRequest, LoadResponse, StoreRequest, StoreResponse}
@@ -21,16 +22,16 @@ use Rattle.memory_histories.specs.declared.reasons.Owed.{Owed}
 use Rattle.memory_histories.specs.declared.reasons.Owed.TheVariants as owed
 use Rattle.memory_histories.specs.declared.reasons.StoreName.{StoreName}
 use Rattle.memory_histories.specs.declared.flat.OwedByte.{OwedByte}
-use Rattle.memory_histories.specs.Regular.{is_inside, has_enabled, load_request_fault, load_response_fault, store_request_fault}
+use Rattle.memory_histories.specs.Regular.{is_inside, has_enabled, enables_any, request_fault, load_response_fault}
 use Rattle.memory_histories.specs.Regular.{store_response_fault, wrong_byte, wrong_place}
-use Rattle.memory_histories.specs.Flat.{Flat, initial, with_value, with_bytes, stored, is_paid_by, may_return, is_open, flat_fault}
+use Rattle.memory_histories.specs.Flat.{Flat, initial, with_value, with_bytes, asked, stored, is_paid_by, may_return, is_open, flat_fault}
 use Rattle.memory_histories.specs.Flat.{flat_after, flat_run}
 use Rattle.memory_histories.specs.Flat as flat
 use Rattle.memory_histories.proofs.Lists.{list_any-kept, list_any-filter}
 use Rattle.atomic_histories.specs.declared.unit.Operation.{Operation}
 use Rattle.atomic_histories.specs.declared.unit.OpenStore.{OpenStore}
 use Rattle.atomic_histories.specs.declared.unit.UnitPlace.{UnitPlace}
-use Rattle.atomic_histories.specs.Words.{at_lane, at_unit, first_byte, byte_for, enabled_byte, stored_byte, is_at}
+use Rattle.atomic_histories.specs.Words.{at_lane, at_unit, first_byte, reads_from, read_byte, enabled_byte, stored_byte, is_at}
 use Rattle.atomic_histories.specs.Words.{written_byte, written, is_as_it_stood, is_word_of}
 use Rattle.atomic_histories.specs.Operations.{Opened, none_opened, opened_after, has_number, form_fault}
 use Rattle.atomic_histories.specs.Law.{OpenLoad, UnitMemory, MayBe, starts, steps, sees, untouched, done_store, done_load, is_store}
@@ -189,14 +190,14 @@ response_parts may ls bs h = elim (cases_Bool (length ls == 0)) [
 
 -- Open operations. ----
 
-abbrev pub owed_byte : ℕ → ℕ → (ℕ → Owed) → OwedByte
-owed_byte n a memory = record { number = n; address = a; owed = memory a }
+abbrev pub owed_byte : Operation → ℕ → (ℕ → Owed) → OwedByte
+owed_byte o a memory = record { number = o.number; address = a; owed = asked memory o.address o.enables a }
 
 abbrev pub owed_number : OwedByte → ℕ
 owed_number l = l.number
 
-pub owed_named : (n a : ℕ) (memory : ℕ → Owed) → owed_number (owed_byte n a memory) ≡ n
-owed_named n a memory = refl
+pub owed_named : (o : Operation) (a : ℕ) (memory : ℕ → Owed) → owed_number (owed_byte o a memory) ≡ o.number
+owed_named o a memory = refl
 
 pub record Agrees (o : Opened) (f : Flat) (ks : List (Marked (ℕ → Owed))) : Type 0 where
   pub loads : Loads owed_byte owed_number owed_named ks f.loads o.loads
@@ -225,17 +226,18 @@ without_one number n m xs = elim (cases_Bool _) [
 pub agrees_after : (o : Opened) (f : Flat) (ks : List (Marked (ℕ → Owed))) (event : HistoryEvent) → Agrees o f ks
     → form_fault o event ≡ None
     → Agrees (opened_after o event) (flat_after f event) (marked_after f.memory ks event)
-agrees_after o f ks (LoadRequest n a len) g h =
-    let p = load_allowed _ _ h in
+agrees_after o f ks (LoadRequest n a len e) g h =
+    let p = is_allowed _ _ _ h in
     record {
       loads = loads_more owed_byte owed_number owed_named ks f.loads o.loads g.loads (record {
         operation = record {
           number = n;
           address = a;
           length = len;
+          enables = e;
         };
         mark = f.memory;
-      }) p.1 (inside_some a len p.0);
+      }) p.1.1 (inside_some a len p.0);
       stores = g.stores;
     }
 agrees_after o f ks (LoadResponse n bytes) g h = record {
@@ -243,7 +245,7 @@ agrees_after o f ks (LoadResponse n bytes) g h = record {
   stores = g.stores;
 }
 agrees_after o f ks (StoreRequest n a bytes e) g h =
-    let x : Operation = record { number = n; address = a; length = length bytes.now } in
+    let x : Operation = record { number = n; address = a; length = length bytes.now; enables = e } in
     record {
       loads = g.loads;
       stores = λ m. any_snoc _ f.stores n ∙ (cc (g.stores m, any_snoc (has_number m) o.stores x));
@@ -276,7 +278,7 @@ record IsAnswer (o : Opened) (ks : List (Marked (ℕ → Owed))) (n : ℕ) (byte
   pub same : load.operation ≡ operation
   pub long : length bytes ≡ load.operation.length
   pub paid : (i b : ℕ) → slice_get bytes i ≡ Some b → i < load.operation.length
-      → is_paid_by (load.mark (load.operation.address + i)) b ≡ true
+      → is_paid_by (asked load.mark load.operation.address load.operation.enables (load.operation.address + i)) b ≡ true
 
 answer_of : (o : Opened) (f : Flat) (ks : List (Marked (ℕ → Owed))) (n : ℕ) (bytes : Bor (List ℕ)) → Agrees o f ks
     → flat_fault f (LoadResponse n bytes) ≡ None → IsAnswer o ks n bytes.now
@@ -296,7 +298,7 @@ answer_of o f ks n bytes g h =
       found_load = u.1.0;
       same = u.1.1.0;
       long = sym r.1.0 ∙ (ap length u.1.1.1 ∙ length_bytes owed_byte owed_number owed_named k);
-      paid = paid_at owed_byte owed_number owed_named may_return k.operation.number k.mark k.operation.length k.operation.address bytes.now
+      paid = paid_at owed_byte owed_number owed_named may_return k.operation k.mark k.operation.length k.operation.address bytes.now
           (no_place may_return (zip (bytes_of owed_byte owed_number owed_named k) bytes.now) (place_none may_return (zip (bytes_of owed_byte
           owed_number owed_named k) bytes.now) right));
     }
@@ -304,18 +306,26 @@ answer_of o f ks n bytes g h =
 pub formed_after : (o : Opened) (f : Flat) (ks : List (Marked (ℕ → Owed))) (event : HistoryEvent) → Agrees o f ks
     → flat_fault f event ≡ None
     → form_fault o event ≡ None
-formed_after o f ks (LoadRequest n a len) g h = ap (load_request_fault (is_inside a len)) (sym (loads_any owed_byte owed_number owed_named
+formed_after o f ks (LoadRequest n a len e) g h = ap (request_fault (is_inside a len) (enables_any len e)) (sym
+    (loads_any owed_byte owed_number owed_named
     ks f.loads o.loads g.loads n)) ∙ h
 formed_after o f ks (LoadResponse n bytes) g h =
     let a = answer_of o f ks n bytes g h in
     let same = eq-eqb a.operation.length _ (ap (λ x.
     x.length) (sym a.same) ∙ sym a.long) in
     rw (a.found_open, same) refl
-formed_after o f ks (StoreRequest n a bytes e) g h = ap (store_request_fault (is_inside a (length bytes.now)) (has_enabled bytes.now e))
+formed_after o f ks (StoreRequest n a bytes e) g h = ap (request_fault (is_inside a (length bytes.now)) (has_enabled bytes.now e))
     (sym (g.stores n)) ∙ h
 formed_after o f ks (StoreResponse n) g h = ap store_response_fault (sym (g.stores n)) ∙ h
 
 -- One unit. ----
+
+-- a byte that is enabled is what stood there
+enabled_paid : (k : Marked (ℕ → Owed)) (i b : ℕ) → (bit_at k.operation.enables i == 1) ≡ true
+    → is_paid_by (asked k.mark k.operation.address k.operation.enables (k.operation.address + i)) b ≡ true
+    → is_paid_by (k.mark (k.operation.address + i)) b ≡ true
+enabled_paid k i b x h =
+    let place : k.operation.address + i - k.operation.address ≡ i = omega arith in (rw (place, x) at h)
 
 lane_stood : (t : Bool) (o : Option ℕ) (b : ℕ) → is_as_it_stood o (Some b) ≡ true → is_as_it_stood (if t then o else None) (Some b) ≡ true
 lane_stood true o b h = h
@@ -336,7 +346,7 @@ module _ (unit : UnitPlace) where
 
   -- an open load got what stood here at its request
   abbrev pub IsBound : OpenLoad → Marked (ℕ → Owed) → Type 0
-  IsBound l k = (k.operation.number ≡ l.number) × ((l.address ≡ k.operation.address) × (l.got ≡ Some (word_of k.mark)))
+  IsBound l k = (k.operation.number ≡ l.number) × ((l.address ≡ reads k.operation) × (l.got ≡ Some (word_of k.mark)))
 
   pub record Holds (f : Flat) (ks : List (Marked (ℕ → Owed))) (m : UnitMemory) : Type 0 where
     pub word : m.word ≡ word_of f.memory
@@ -351,41 +361,42 @@ module _ (unit : UnitPlace) where
       (λ x. sym (ap known (bytes_at (λ b. owed.Stored b store) bs a x e memory) ∙ known_chosen store (stored_byte a bs e x) (memory x)))
 
   lane_paid : (k : Marked (ℕ → Owed)) (bs : List ℕ) → length bs ≡ k.operation.length → ((i b : ℕ) → slice_get bs i ≡ Some b
-      → i < k.operation.length → is_paid_by (k.mark (k.operation.address + i)) b ≡ true)
-      → (j : ℕ) (o : Option ℕ) → byte_for k.operation.address bs (unit.first + j) ≡ o → is_as_it_stood (at_lane unit (λ a.
-      known (k.mark a)) j) (byte_for k.operation.address bs (unit.first + j)) ≡ true
+      → i < k.operation.length → (bit_at k.operation.enables i == 1) ≡ true → is_paid_by (k.mark (k.operation.address + i)) b ≡ true)
+      → (j : ℕ) (o : Option ℕ) → read_byte (reads k.operation) bs (unit.first + j) ≡ o → is_as_it_stood (at_lane unit (λ a.
+      known (k.mark a)) j) (read_byte (reads k.operation) bs (unit.first + j)) ≡ true
   lane_paid k bs long paid j None e = rw e (none_asked (at_lane unit (λ a. known (k.mark a)) j))
   lane_paid k bs long paid j (Some b) e =
       let p = then_it _ _ b e in
       let i = unit.first + j - k.operation.address in
       let low = leb-true k.operation.address _ p.0 in
       let place : k.operation.address + i ≡ unit.first + j = omega arith in
-      let short : i < k.operation.length = subst (λ n. i < n) long (get_within bs i b p.1) in
+      let q = then_it _ _ b p.1 in
+      let short : i < k.operation.length = subst (λ n. i < n) long (get_within bs i b q.1) in
       let stood : is_as_it_stood (known (k.mark (unit.first + j))) (Some b) ≡ true =
-      paid_stood (k.mark (unit.first + j)) b (rw place at (paid i b p.1 short)) in
+      paid_stood (k.mark (unit.first + j)) b (rw place at (paid i b q.1 short q.0)) in
       rw e (lane_stood (nat_lt j unit.size) (known (k.mark (unit.first + j))) b stood)
 
   -- what a load got is what it is answered
   pub got_paid : (k : Marked (ℕ → Owed)) (bs : List ℕ) → length bs ≡ k.operation.length → ((i b : ℕ) → slice_get bs i ≡ Some b
-      → i < k.operation.length → is_paid_by (k.mark (k.operation.address + i)) b ≡ true)
-      → is_word_of unit.first (word_of k.mark) k.operation.address bs ≡ true
+      → i < k.operation.length → (bit_at k.operation.enables i == 1) ≡ true → is_paid_by (k.mark (k.operation.address + i)) b ≡ true)
+      → is_word_of unit.first (word_of k.mark) (reads k.operation) bs ≡ true
   got_paid k bs long paid =
-      lane_word unit.first _ k.operation.address bs
+      lane_word unit.first _ (reads k.operation) bs
       (λ j l. let l8 = l in
-      subst (λ x. is_as_it_stood x (byte_for k.operation.address bs (unit.first + j)) ≡ true) (sym (cc (
+      subst (λ x. is_as_it_stood x (read_byte (reads k.operation) bs (unit.first + j)) ≡ true) (sym (cc (
         lane_map (at_lane unit (λ a.
             known (k.mark a))) 8 0 j l8,
         zero_plus j,
       )))
-      (lane_paid k bs long paid j (byte_for k.operation.address bs (unit.first + j)) refl))
+      (lane_paid k bs long paid j (read_byte (reads k.operation) bs (unit.first + j)) refl))
 
   bound_got : (ks : List (Marked (ℕ → Owed))) (n : ℕ) (bytes : List ℕ) → AreDifferent ks → (k : Marked (ℕ → Owed))
-      → find (is_number n) ks ≡ Some k → is_word_of unit.first (word_of k.mark) k.operation.address bytes ≡ true
+      → find (is_number n) ks ≡ Some k → is_word_of unit.first (word_of k.mark) (reads k.operation) bytes ≡ true
       → (l : OpenLoad) → One (IsBound l) ks → (not (is_load n l) || is_got unit l.address bytes l.got) ≡ true
   bound_got ks n bytes d k e right l q = elim (cases_Bool _) [
     | inl t ↦
-        let b = same_load ks n k (λ x. (l.address ≡ x.operation.address) × (l.got ≡ Some _)) d e
-        (one_weaker _ (λ x. (x.operation.number ≡ n) × ((l.address ≡ x.operation.address)
+        let b = same_load ks n k (λ x. (l.address ≡ reads x.operation) × (l.got ≡ Some _)) d e
+        (one_weaker _ (λ x. (x.operation.number ≡ n) × ((l.address ≡ reads x.operation)
         × (l.got ≡ Some _))) (λ x y. (y.0 ∙ eqb-true l.number n t, y.1)) ks q) in
         rw (t, b.0, b.1) right
     | inr t ↦ rw t refl
@@ -393,17 +404,17 @@ module _ (unit : UnitPlace) where
 
   -- Events. ----
 
-  requested : (start : UnitMemory) (past : List HistoryEvent) (f : Flat) (ks : List (Marked (ℕ → Owed))) (m : UnitMemory) (n a len : ℕ)
+  requested : (start : UnitMemory) (past : List HistoryEvent) (f : Flat) (ks : List (Marked (ℕ → Owed))) (m : UnitMemory) (n a len en : ℕ)
       → MayBe unit start past m → Holds f ks m → (t : Bool) → is_at unit a len ≡ t
-      → (k : UnitMemory) × (MayBe unit start (past ++ LoadRequest n a len ∷ []) k
-      × Holds (flat_after f (LoadRequest n a len)) (marked_after f.memory ks (LoadRequest n a len)) k)
-  requested start past f ks m n a len r h true e =
-      let l : OpenLoad = record { number = n; address = a; got = None } in
-      let k : Marked (ℕ → Owed) = record { operation = record { number = n; address = a; length = len }; mark = f.memory } in
+      → (k : UnitMemory) × (MayBe unit start (past ++ LoadRequest n a len en ∷ []) k
+      × Holds (flat_after f (LoadRequest n a len en)) (marked_after f.memory ks (LoadRequest n a len en)) k)
+  requested start past f ks m n a len en r h true e =
+      let l : OpenLoad = record { number = n; address = reads_from a en; got = None } in
+      let k : Marked (ℕ → Owed) = record { operation = record { number = n; address = a; length = len; enables = en }; mark = f.memory } in
       let after : UnitMemory = record { word = m.word; stores = m.stores; loads = m.loads ++ done_load _ l ∷ [] } in (
         after,
         (
-          steps _ _ after (sees past (LoadRequest n a len) m (with_load n a m) r (rw e
+          steps _ _ after (sees past (LoadRequest n a len en) m (with_load n (reads_from a en) m) r (rw e
               refl)) (inr (m.loads, l, [], refl, refl, refl)),
           record {
             word = h.word;
@@ -415,7 +426,7 @@ module _ (unit : UnitPlace) where
           },
         ),
       )
-  requested start past f ks m n a len r h false e =
+  requested start past f ks m n a len en r h false e =
       let k : Marked (ℕ → Owed) = record { operation = grind arith; mark = f.memory } in (
         m,
         (
@@ -438,7 +449,8 @@ module _ (unit : UnitPlace) where
       let may : may_answer_load unit n bytes.now _ ≡ true =
       each_all (λ l. not _ || is_got unit l.address bytes.now l.got) _
       (each_weaker (λ l. One _ ks) (λ l. (not _ || is_got unit l.address bytes.now l.got) ≡ true) (λ l q.
-      bound_got ks n bytes.now d a.load a.found_load (got_paid a.load bytes.now a.long a.paid) l q) _ h.bound) in (
+      bound_got ks n bytes.now d a.load a.found_load
+      (got_paid a.load bytes.now a.long (λ i b g s x. enabled_paid a.load i b x (a.paid i b g s))) l q) _ h.bound) in (
         without_load n m,
         (
           sees past _ m _ r (rw may refl),
@@ -506,7 +518,7 @@ module _ (unit : UnitPlace) where
   pub next : (start : UnitMemory) (past : List HistoryEvent) (o : Opened) (f : Flat) (ks : List (Marked (ℕ
       → Owed))) (m : UnitMemory) (event : HistoryEvent) → MayBe unit start past m → Holds f ks m → Agrees o f ks → flat_fault f event ≡ None
       → (k : UnitMemory) × (MayBe unit start (past ++ event ∷ []) k × Holds (flat_after f event) (marked_after f.memory ks event) k)
-  next start past o f ks m (LoadRequest n a len) r h g e = requested start past f ks m n a len r h _ refl
+  next start past o f ks m (LoadRequest n a len en) r h g e = requested start past f ks m n a len en r h _ refl
   next start past o f ks m (LoadResponse n bytes) r h g e = answered start past o f ks m n bytes r h g.loads.different (answer_of o f ks n
       bytes g e)
   next start past o f ks m (StoreRequest n a bytes es) r h g e = store_requested start past f ks m n a bytes es r h _ refl

@@ -7,8 +7,9 @@ use Rattle.std.specs.Borrow.{Bor}
 use Rattle.std.specs.List.{list_any}
 use Rattle.std.specs.Option.{option_and_then}
 use Rattle.std.proofs.lemmas.Bool.{and_parts, ltb-true, not-true, false_from_ne_true}
-use Rattle.atomic_histories.proofs.Links.{load_allowed}
+use Rattle.atomic_histories.proofs.Links.{is_allowed, reads}
 use Rattle.memory_histories.specs.declared.events.HistoryEvent.{HistoryEvent}
+use Rattle.memory_histories.specs.declared.events.TheConstants.{ALL_ENABLED}
 use Rattle.memory_histories.specs.declared.events.HistoryEvent.TheVariants.{LoadRequest, LoadResponse, StoreRequest, StoreResponse}
 use Rattle.memory_histories.specs.declared.events.HistoryFault.{HistoryFault}
 use Rattle.memory_histories.specs.declared.events.Rest.TheVariants.{Zeros}
@@ -16,7 +17,9 @@ use Rattle.memory_histories.specs.declared.reasons.Owed.{Owed}
 use Rattle.memory_histories.specs.Flat.{Flat, is_paid_by, flat_fault, flat_after, flat_run}
 use Rattle.memory_histories.specs.Flat as flat
 use Rattle.atomic_histories.specs.declared.unit.UnitPlace.{UnitPlace}
-use Rattle.atomic_histories.specs.Words.{is_word_of}
+use Rattle.atomic_histories.specs.declared.unit.LoadAddress.{LoadAddress}
+use Rattle.atomic_histories.specs.declared.unit.Operation.{Operation}
+use Rattle.atomic_histories.specs.Words.{reads_from, is_word_of}
 use Rattle.atomic_histories.specs.Operations.{Opened, none_opened, opened_after, form_fault}
 use Rattle.atomic_histories.specs.Law.{OpenLoad, UnitMemory, IsAtomic, MayBe, starts, sees, is_load, may_answer_load}
 use Rattle.atomic_histories.specs.Law.{without_load, unit_at, is_formed}
@@ -60,7 +63,7 @@ nested xs x ys zs ws = cc (append_assoc xs _ ws, append_assoc ys zs ws)
 
 -- events in which this tag doesn't come
 abbrev Spares : ℕ → HistoryEvent → Type 0
-Spares tag (LoadRequest n address len) = (n == tag) ≡ false
+Spares tag (LoadRequest n address len enables) = (n == tag) ≡ false
 Spares tag (LoadResponse n bytes) = (n == tag) ≡ false
 Spares tag event = Unit {0}
 
@@ -191,63 +194,67 @@ module _ (unit : UnitPlace) where
       s.1.1 (agrees_after o f ks event a (formed_after o f ks event a p.0)) p.1)
 
   -- no load is open under a number that may be requested
-  no_mark : (o : Opened) (f : Flat) (ks : List (Marked (ℕ → Owed))) (tag address len : ℕ) → Agrees o f ks
-      → flat_fault f (LoadRequest tag address len) ≡ None → list_any (is_number tag) ks ≡ false
-  no_mark o f ks tag address len a e =
+  no_mark : (o : Opened) (f : Flat) (ks : List (Marked (ℕ → Owed))) (tag address len en : ℕ) → Agrees o f ks
+      → flat_fault f (LoadRequest tag address len en) ≡ None → list_any (is_number tag) ks ≡ false
+  no_mark o f ks tag address len en a e =
       sym (any_operation owed_byte owed_number owed_named ks o.loads tag a.loads.operations)
-      ∙ (load_allowed _ _ (formed_after o f ks (LoadRequest tag address len) a e)).1
+      ∙ (is_allowed _ _ _ (formed_after o f ks (LoadRequest tag address len en) a e)).1.1
 
   other_number : (ks : List (Marked (ℕ → Owed))) (tag : ℕ) → list_any (is_number tag) ks ≡ false → (l : OpenLoad)
       → One (IsBound unit l) ks → is_load tag l ≡ false
-  other_number ks tag none l b = false_from_ne_true _ (λ q. no_other ks tag (λ k. (l.address ≡ k.operation.address)
+  other_number ks tag none l b = false_from_ne_true _ (λ q. no_other ks tag (λ k. (l.address ≡ reads k.operation)
       × (l.got ≡ Some _)) (one_weaker _ (λ k. (k.operation.number ≡ tag)
-      × ((l.address ≡ k.operation.address) × (l.got ≡ Some _))) (λ k c. (c.0 ∙ eqb-true l.number tag q, c.1)) ks b)
+      × ((l.address ≡ reads k.operation) × (l.got ≡ Some _))) (λ k c. (c.0 ∙ eqb-true l.number tag q, c.1)) ks b)
       none)
 
-  suits : (tag address : ℕ) (got : Option (List (Option ℕ))) (event : HistoryEvent) → Spares tag event → Suits unit tag address got event
-  suits tag address got (LoadRequest n a len) s = inl s
+  suits : (tag : ℕ) (address : LoadAddress) (got : Option (List (Option ℕ))) (event : HistoryEvent) → Spares tag event
+      → Suits unit tag address got event
+  suits tag address got (LoadRequest n a len e) s = inl s
   suits tag address got (LoadResponse n bytes) s = s
   suits tag address got (StoreRequest n a bytes e) s = tt
   suits tag address got (StoreResponse n) s = tt
 
   -- the answer of a load that takes effect between `until` and `behind`
   comes_late : (start : UnitMemory) (o : Opened) (f0 f1 f2 f3 : Flat) (ks : List (Marked (ℕ
-      → Owed))) (before until behind : List HistoryEvent) (tag address len : ℕ) (bytes : Bor (List ℕ))
+      → Owed))) (before until behind : List HistoryEvent) (tag address len en : ℕ) (bytes : Bor (List ℕ))
       → Holds unit f0 ks start → Agrees o f0 ks
-      → flat_run f0 before ≡ Some f1 → flat_run f1 (LoadRequest tag address len ∷ until) ≡ Some f2 → flat_run f2 behind ≡ Some f3
+      → flat_run f0 before ≡ Some f1 → flat_run f1 (LoadRequest tag address len en ∷ until) ≡ Some f2 → flat_run f2 behind ≡ Some f3
       → Each (Spares tag) until → Each (Spares tag) behind → length bytes.now ≡ len
       → ((i b : ℕ) → slice_get bytes.now i ≡ Some b → is_paid_by (f2.memory (address + i)) b ≡ true)
-      → (k : UnitMemory) × MayBe unit start (before ++ LoadRequest tag address len ∷ (until ++ (behind ++ LoadResponse tag bytes ∷ []))) k
-  comes_late start o f0 f1 f2 f3 ks before until behind tag address len bytes h a e1 e2 e3 s2 s3 long paid =
-      let request = LoadRequest tag address len in
+      → (k : UnitMemory) × MayBe unit start (before ++ LoadRequest tag address len en ∷ (until ++ (behind ++ LoadResponse tag bytes
+      ∷ []))) k
+  comes_late start o f0 f1 f2 f3 ks before until behind tag address len en bytes h a e1 e2 e3 s2 s3 long paid =
+      let from = reads_from address en in
+      let request = LoadRequest tag address len en in
       let first = reaches start [] before o f0 f1 ks start starts h a e1 in
       let m1 = first.memory in
       let p = run_parts_to f1 f2 request until e2 in
-      let none = no_mark first.opened f1 first.marks tag address len first.agrees p.0 in
+      let none = no_mark first.opened f1 first.marks tag address len en first.agrees p.0 in
       let others = each_weaker (λ l. One _ first.marks) (λ l.
       is_load tag l ≡ false) (other_number first.marks tag none) _ first.holds.bound in
       let second = reaches m1 [] (request ∷ until) first.opened f1 f2 first.marks m1 starts first.holds first.agrees e2 in
       let m2 = second.memory in
-      let spared2 = each_weaker _ _ (suits tag address
+      let spared2 = each_weaker _ _ (suits tag from
       None) until s2 in
       let to_moment = subst (λ x.
-      MayBe unit x (request ∷ until) (late unit tag address None m2)) (none_late unit tag address None m1 others)
-      (follows unit tag address None m1 m2 _ second.may (inr (refl, refl), spared2)) in
+      MayBe unit x (request ∷ until) (late unit tag from None m2)) (none_late unit tag from None m1 others)
+      (follows unit tag from None m1 m2 _ second.may (inr (refl, refl), spared2)) in
       let at_moment =
-      settles unit tag address start _ _ _ [] m2.loads (and_then unit start m1 (late unit tag
-      address None m2) before (request ∷ until) first.may to_moment) in
+      settles unit tag from start _ _ _ [] m2.loads (and_then unit start m1 (late unit tag
+      from None m2) before (request ∷ until) first.may to_moment) in
       let third = reaches m2 [] behind second.opened f2 f3 second.marks m2 starts second.holds second.agrees e3 in
       let m3 : UnitMemory = third.memory in
       let spared3 : Each _ behind = each_weaker _ _
-      (suits tag address (Some m2.word)) behind s3 in
-      let m4 : UnitMemory = late unit tag address _ m3 in
+      (suits tag from (Some m2.word)) behind s3 in
+      let m4 : UnitMemory = late unit tag from _ m3 in
       let to_end : MayBe unit start _ m4 =
       and_then unit start _ m4 _ behind at_moment (follows unit tag
-      address (Some m2.word) m2 m3 behind third.may spared3) in
-      let k : Marked (ℕ → Owed) = record { operation = record { number = tag; address = address; length = len }; mark = f2.memory } in
-      let right : is_word_of unit.first _ address bytes.now ≡ true = subst (λ w.
-      is_word_of unit.first w address bytes.now ≡ true) (sym second.holds.word) (got_paid unit k bytes.now long (λ i b g l. paid i b g)) in
-      let may : may_answer_load unit tag bytes.now _ ≡ true = answers_late unit tag address m3 _ bytes.now right in
+      from (Some m2.word) m2 m3 behind third.may spared3) in
+      let asked : Operation = record { number = tag; address = address; length = len; enables = en } in
+      let k : Marked (ℕ → Owed) = record { operation = asked; mark = f2.memory } in
+      let right : is_word_of unit.first _ from bytes.now ≡ true = subst (λ w.
+      is_word_of unit.first w from bytes.now ≡ true) (sym second.holds.word) (got_paid unit k bytes.now long (λ i b g l x. paid i b g)) in
+      let may : may_answer_load unit tag bytes.now _ ≡ true = answers_late unit tag from m3 _ bytes.now right in
       let all : MayBe unit start _ _ =
       sees _ _ m4 _ to_end (rw may refl) in (
         without_load tag m4,
@@ -292,7 +299,7 @@ other_word before until behind asked tag v w h =
 module _ (image : List Word) (size : ℕ) (events : List Event) (answers : List Answer) (tag step : ℕ) (word : Word) where
   late_told : (s : HasStood image events answers tag word)
       → told_history (events ++ Take step ∷ []) (answers ++ Value tag word ∷ []) ≡ told_history s.before s.before_answers
-      ++ LoadRequest tag (4 * s.at) 4 ∷ (told_history s.until s.until_answers ++ (told_history s.behind s.behind_answers
+      ++ LoadRequest tag (4 * s.at) 4 ALL_ENABLED ∷ (told_history s.until s.until_answers ++ (told_history s.behind s.behind_answers
       ++ LoadResponse tag (seen_bytes (word_bytes word)) ∷ []))
   late_told s =
       let request = Load tag s.at in
@@ -302,7 +309,7 @@ module _ (image : List Word) (size : ℕ) (events : List Event) (answers : List 
       ap (λ x. x ++ Value tag word ∷ []) s.answers_are ∙ nested s.before_answers Accepted s.until_answers s.behind_answers _ in
       (λ i. told_history (whole i) (whole_answers i))
       ∙ (told_append _ s.first s.before s.before_answers _ _ s.runs_first
-      ∙ ap (λ t. told_history s.before s.before_answers ++ LoadRequest tag (4 * s.at) 4 ∷ t)
+      ∙ ap (λ t. told_history s.before s.before_answers ++ LoadRequest tag (4 * s.at) 4 ALL_ENABLED ∷ t)
       (told_append _ s.moment s.until s.until_answers _
       _ s.runs_until
       ∙ ap (λ t. told_history s.until s.until_answers ++ t) (told_append s.moment s.last s.behind s.behind_answers (Take step ∷ []) (Value
@@ -312,7 +319,7 @@ module _ (image : List Word) (size : ℕ) (events : List Event) (answers : List 
   late_is_atomic = λ fits s.
       let n = length image in
       let request = Load tag s.at in
-      let asked = LoadRequest tag _ 4 in
+      let asked = LoadRequest tag _ 4 ALL_ENABLED in
       let f0 = flat.opening _ Zeros in
       let v = word_at s.first.mem s.at in
       let before = told_history s.before s.before_answers in
@@ -337,7 +344,7 @@ module _ (image : List Word) (size : ℕ) (events : List Event) (answers : List 
       subst (IsAtomic (image_bytes image) Zeros size) (sym (late_told s)) (record {
         formed = other_word before until behind asked tag v word formed;
         moments = λ k. comes_late _ _ none_opened f0 first.0 moment.0
-            last.0 [] before until behind tag _ 4 _ (first_holds (image_bytes image) Zeros (unit_at
+            last.0 [] before until behind tag _ 4 ALL_ENABLED _ (first_holds (image_bytes image) Zeros (unit_at
             size k)) (first_agrees (image_bytes image) Zeros) first.1.0 to_moment last.1.0 keeps.0 keeps_on.0 refl (word_paid n fits
             s.moment moment.0 s.at word moment.1.1 low s.stood);
       })

@@ -28,12 +28,13 @@ inside_some address n h = grind arith
 
 -- what is kept of the loads after an event
 abbrev pub marked_after : {X : Type 0} → X → List (Marked X) → HistoryEvent → List (Marked X)
-marked_after x ks (LoadRequest number address n) = ks
-    ++ record { operation = record { number = number; address = address; length = n }; mark = x } ∷ []
+marked_after x ks (LoadRequest number address n enables) = ks
+    ++ record { operation = record { number = number; address = address; length = n; enables = enables }; mark = x } ∷ []
 marked_after x ks (LoadResponse number bytes) = filter (λ k. not (is_number number k)) ks
 marked_after x ks event = ks
 
-module _ {X L : Type 0} (make : ℕ → ℕ → X → L) (number : L → ℕ) (named : (n a : ℕ) (x : X) → number (make n a x) ≡ n) where
+module _ {X L : Type 0} (make : Operation → ℕ → X → L) (number : L → ℕ) (named : (o : Operation) (a : ℕ) (x : X)
+    → number (make o a x) ≡ o.number) where
   -- these are the open loads, and these are their bytes
   pub record Loads (ks : List (Marked X)) (ls : List L) (os : List Operation) : Type 0 where
     pub bytes : ls ≡ all_bytes make number named ks
@@ -87,12 +88,12 @@ module _ {X L : Type 0} (make : ℕ → ℕ → X → L) (number : L → ℕ) (n
       (s.0, (s.1.0, (s.1.1, ap (filter (λ l. number l == n)) h.bytes ∙ bytes_under make number named ks n s.0 h.different s.1.0)))
 
   pub length_bytes : (k : Marked X) → length (bytes_of make number named k) ≡ k.operation.length
-  length_bytes k = grind (arith, length-map, k.operation.number, length-range_with_len, k.operation.length)
+  length_bytes k = grind (arith, length-map, k.operation, k.operation.number, length-range_with_len, k.operation.length)
 
   -- an answer of which each byte may be returned has no fault
   pub no_fault : (may : L → ℕ → Bool) (k : Marked X) (bs : List ℕ) → IsSome k → length bs ≡ k.operation.length
       → ((i b : ℕ) → slice_get bs i ≡ Some b → i < k.operation.length
-      → may (make k.operation.number (k.operation.address + i) k.mark) b ≡ true)
+      → may (make k.operation (k.operation.address + i) k.mark) b ≡ true)
       → load_response_fault may (bytes_of make number named k) bs ≡ None
   no_fault may k bs s e h =
       let len = length_bytes k in
@@ -100,7 +101,7 @@ module _ {X L : Type 0} (make : ℕ → ℕ → X → L) (number : L → ℕ) (n
       absurd (omega arith)) in
       let same = eq-eqb (length (bytes_of make number named k)) (length bs)
       (len ∙ sym e) in
-      let paid = each_paid make number named may k.operation.number k.mark k.operation.length k.operation.address bs h in
+      let paid = each_paid make number named may k.operation k.mark k.operation.length k.operation.address bs h in
       let right = no_wrong_place may (zip (bytes_of make number named k) bs) paid
       in
       rw (some, same, right) refl

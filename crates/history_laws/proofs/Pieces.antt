@@ -31,34 +31,35 @@ AreDifferent (k ∷ ks) = (list_any (is_number k.operation.number) ks ≡ false)
 abbrev pub IsSome : {X : Type 0} → Marked X → Type 0
 IsSome k = 1 ≤ k.operation.length
 
-module _ {X L : Type 0} (make : ℕ → ℕ → X → L) (number : L → ℕ) (named : (n a : ℕ) (x : X) → number (make n a x) ≡ n) where
-  abbrev pub piece : ℕ → X → ℕ → ℕ → List L
-  piece n x a len = map (λ b. make n b x) (range_with_len a len)
+module _ {X L : Type 0} (make : Operation → ℕ → X → L) (number : L → ℕ) (named : (o : Operation) (a : ℕ) (x : X)
+    → number (make o a x) ≡ o.number) where
+  abbrev pub piece : Operation → X → ℕ → ℕ → List L
+  piece o x a len = map (λ b. make o b x) (range_with_len a len)
 
   abbrev pub bytes_of : Marked X → List L
-  bytes_of k = piece k.operation.number k.mark k.operation.address k.operation.length
+  bytes_of k = piece k.operation k.mark k.operation.address k.operation.length
 
   abbrev pub all_bytes : List (Marked X) → List L
   all_bytes [] = []
   all_bytes (k ∷ ks) = bytes_of k ++ all_bytes ks
 
-  each_named : (n : ℕ) (x : X) (len a : ℕ) → Each (λ l. number l ≡ n) (piece n x a len)
-  each_named n x zero a = tt
-  each_named n x (suc len) a = (named n a x, each_named n x len _)
+  each_named : (o : Operation) (x : X) (len a : ℕ) → Each (λ l. number l ≡ o.number) (piece o x a len)
+  each_named o x zero a = tt
+  each_named o x (suc len) a = (named o a x, each_named o x len _)
 
   abbrev is_it : ℕ → L → Bool
   is_it n l = number l == n
 
   each_is : (k : Marked X) (n : ℕ) (b : Bool) → is_number n k ≡ b → Each (λ l. is_it n l ≡ b) (bytes_of k)
-  each_is k n b h = grind (arith, each_weaker, k.operation.number, each_named, k.mark, k.operation.length)
+  each_is k n b h = grind (arith, each_weaker, k.operation, k.operation.number, each_named, k.mark, k.operation.length)
 
-  any_first : (m : ℕ) (x : X) (a len n : ℕ) → 1 ≤ len → (m == n) ≡ true → list_any (is_it n) (piece m x a len) ≡ true
-  any_first m x a zero n s e = absurd (omega arith)
-  any_first m x a (suc len) n s e = grind arith
+  any_first : (o : Operation) (x : X) (a len n : ℕ) → 1 ≤ len → (o.number == n) ≡ true → list_any (is_it n) (piece o x a len) ≡ true
+  any_first o x a zero n s e = absurd (omega arith)
+  any_first o x a (suc len) n s e = grind (arith, named o a x)
 
   any_piece : (k : Marked X) (n : ℕ) → IsSome k → list_any (is_it n) (bytes_of k) ≡ is_number n k
   any_piece k n s = elim (cases_Bool _) [
-    | inl e ↦ any_first k.operation.number k.mark k.operation.address k.operation.length n s e ∙ sym e
+    | inl e ↦ any_first k.operation k.mark k.operation.address k.operation.length n s e ∙ sym e
     | inr e ↦ any_none _ _ (each_is k n false e) ∙ sym e
   ]
 
@@ -126,14 +127,14 @@ module _ {X L : Type 0} (make : ℕ → ℕ → X → L) (number : L → ℕ) (n
   bytes_more (j ∷ ks) k = cc (bytes_more ks k, append_assoc (bytes_of j) (all_bytes ks) (bytes_of k))
 
   -- an answer that passes at each byte has no wrong place
-  pub each_paid : (may : L → ℕ → Bool) (n : ℕ) (x : X) (len a : ℕ) (bs : List ℕ) → ((i b : ℕ) → slice_get bs i ≡ Some b → i < len
-      → may (make n (a + i) x) b ≡ true)
-      → Each (λ p. may p.0 p.1 ≡ true) (zip (piece n x a len) bs)
-  each_paid may n x zero a bs h = tt
-  each_paid may n x (suc len) a [] h = tt
-  each_paid may n x (suc len) a (b ∷ bs) h = (
-    subst (λ y. may (make n y x) b ≡ true) (omega arith) (h 0 b refl (omega arith)),
-    each_paid may n x len _ bs (λ i c e l. subst (λ y. may (make n y x) c ≡ true) (omega arith) (h (suc i) c e (omega arith))),
+  pub each_paid : (may : L → ℕ → Bool) (o : Operation) (x : X) (len a : ℕ) (bs : List ℕ) → ((i b : ℕ) → slice_get bs i ≡ Some b → i < len
+      → may (make o (a + i) x) b ≡ true)
+      → Each (λ p. may p.0 p.1 ≡ true) (zip (piece o x a len) bs)
+  each_paid may o x zero a bs h = tt
+  each_paid may o x (suc len) a [] h = tt
+  each_paid may o x (suc len) a (b ∷ bs) h = (
+    subst (λ y. may (make o y x) b ≡ true) (omega arith) (h 0 b refl (omega arith)),
+    each_paid may o x len _ bs (λ i c e l. subst (λ y. may (make o y x) c ≡ true) (omega arith) (h (suc i) c e (omega arith))),
   )
 
 -- Different numbers. ----
@@ -203,13 +204,14 @@ same_load (x ∷ ks) n k Q d h o = elim (cases_Bool _) [
 ]
 
 -- and each byte of an answer that passes may be returned
-pub paid_at : {X L : Type 0} (make : ℕ → ℕ → X → L) (number : L → ℕ) (named : (n a : ℕ) (x : X) → number (make n a x) ≡ n) (may : L → ℕ
-    → Bool) (n : ℕ) (x : X) (len a : ℕ) (bs : List ℕ)
-    → Each (λ p. may p.0 p.1 ≡ true) (zip (piece make number named n x a len) bs) → (i b : ℕ) → slice_get bs i ≡ Some b → i < len
-    → may (make n (a + i) x) b ≡ true
-paid_at make number named may n x zero a bs h i b e l = absurd (omega arith)
-paid_at make number named may n x (suc len) a [] h i b e l = cc
-paid_at make number named may n x (suc len) a (c ∷ bs) h zero b e l = let same : c ≡ b = cc in subst (λ y.
-    may (make n y x) b ≡ true) (omega arith) (rw same at h.0)
-paid_at make number named may n x (suc len) a (c ∷ bs) h (suc i) b e l =
-    subst (λ y. may (make n y x) b ≡ true) (omega arith) (paid_at make number named may n x len (a + 1) bs h.1 i b e (omega arith))
+pub paid_at : {X L : Type 0} (make : Operation → ℕ → X → L) (number : L → ℕ) (named : (o : Operation) (a : ℕ) (x : X)
+    → number (make o a x) ≡ o.number) (may : L → ℕ
+    → Bool) (o : Operation) (x : X) (len a : ℕ) (bs : List ℕ)
+    → Each (λ p. may p.0 p.1 ≡ true) (zip (piece make number named o x a len) bs) → (i b : ℕ) → slice_get bs i ≡ Some b → i < len
+    → may (make o (a + i) x) b ≡ true
+paid_at make number named may o x zero a bs h i b e l = absurd (omega arith)
+paid_at make number named may o x (suc len) a [] h i b e l = cc
+paid_at make number named may o x (suc len) a (c ∷ bs) h zero b e l = let same : c ≡ b = cc in subst (λ y.
+    may (make o y x) b ≡ true) (omega arith) (rw same at h.0)
+paid_at make number named may o x (suc len) a (c ∷ bs) h (suc i) b e l =
+    subst (λ y. may (make o y x) b ≡ true) (omega arith) (paid_at make number named may o x len (a + 1) bs h.1 i b e (omega arith))

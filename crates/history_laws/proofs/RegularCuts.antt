@@ -4,7 +4,7 @@ use Rattle.std.proofs.Common.{nat_le, List, [], ◌∷◌, ◌++◌, map, length
 use Rattle.std.proofs.Common.{arith}
 use Rattle.std.proofs.Common.{eq-eqb, append-nil}
 use Rattle.std.specs.Prelude.{is_some, IsTrue, is_none}
-use Rattle.std.specs.List.{filter, list_all, list_any, zip}
+use Rattle.std.specs.List.{filter, list_all, list_any, range_with_len, zip}
 use Rattle.std.specs.Option.{option_map, option_and_then}
 use Rattle.std.proofs.lemmas.Bool.{cases_Bool, and_parts, and_from, or_parts, le-leb, lt-ltb, ltb-true, ltb-false, leb-true, leb-false}
 use Rattle.std.proofs.lemmas.Bool.{both_ways}
@@ -19,7 +19,7 @@ use Rattle.memory_histories.specs.declared.events.Rest.TheVariants.{Zeros}
 use Rattle.memory_histories.specs.declared.events.HistoryFault.{HistoryFault}
 use Rattle.memory_histories.specs.declared.windows.StoreByte.{StoreByte}
 use Rattle.memory_histories.specs.declared.windows.LoadByte.{LoadByte}
-use Rattle.memory_histories.specs.Windows.{Windows, opening, cons_if, store_bytes, load_bytes, is_open, is_of, after_response}
+use Rattle.memory_histories.specs.Windows.{Windows, opening, cons_if, store_bytes, load_byte, is_open, is_of, after_response}
 use Rattle.memory_histories.specs.Windows.{windows_after}
 use Rattle.memory_histories.specs.Regular.{is_before, overwrites, is_overwritten, is_left, is_covered, is_initial, may_return_byte}
 use Rattle.memory_histories.specs.Regular.{may_return}
@@ -29,7 +29,7 @@ use Rattle.memory_histories.proofs.Lists.{filter-map}
 use Rattle.atomic_histories.specs.declared.unit.UnitPlace.{UnitPlace}
 use Rattle.atomic_histories.specs.Stands.{Each}
 use Rattle.atomic_histories.proofs.Lists.{filter_swap}
-use Rattle.atomic_histories.proofs.Links.{load_allowed, store_allowed}
+use Rattle.atomic_histories.proofs.Links.{is_allowed}
 use Rattle.history_reasons.specs.Sources.{gives}
 use Rattle.history_laws.specs.Cuts.{Cut, stays_from, is_alike, has_mark_of_request, lacks_giver, is_within, has_givers}
 use Rattle.history_laws.specs.Cuts.{is_closed_from, CutIsRegular}
@@ -158,7 +158,7 @@ module _ (stays : Cut) where
   told s = record { number = s.number; address = s.address; byte = s.byte; began = count s.began; ended = option_map count s.ended }
 
   abbrev told_load : LoadByte → LoadByte
-  told_load l = record { number = l.number; address = l.address; began = count l.began }
+  told_load l = record { number = l.number; address = l.address; began = count l.began; enabled = l.enabled }
 
   abbrev store_stays : StoreByte → Bool
   store_stays s = stays s.began
@@ -225,6 +225,13 @@ module _ (stays : Cut) where
   open_told None = refl
   open_told (Some e) = refl
 
+  any_told : (w : Windows) (l : LoadByte) (b : ℕ) → may_return w l b ≡ true → lacks_giver stays w.stores l b ≡ false
+      → may_return (kept w) (told_load l) b ≡ true
+  any_told w l b h lost = elim (cases_Bool l.enabled) [
+    | inl t ↦ rw t (may_told w.image w.rest w.stores l b (rw t at h) lost)
+    | inr f ↦ rw f refl
+  ]
+
   -- each answered byte may be returned, if it has its giver
   zip_told : (w : Windows) (ls : List LoadByte) (bs : List ℕ) → Each (λ p. may_return w p.0 p.1 ≡ true) (zip ls bs)
       → ((unit : UnitPlace) → list_all (λ p. not (is_within unit p.0.address && lacks_giver stays w.stores p.0 p.1)) (zip ls bs) ≡ true)
@@ -238,7 +245,7 @@ module _ (stays : Cut) where
       let within : is_within at l.address ≡ true = and_from _ _ (le-leb l.address l.address (omega arith)) (lt-ltb l.address (l.address
       + 1) (omega arith)) in
       let has = false_from_ne_true lost (λ t. both_ways (is_within at l.address && lost) (untrue _ here.0) (and_from _ _ within t)) in
-      (may_told w.image w.rest w.stores l b h.0 has, zip_told w ls bs h.1 (λ unit. (and_parts _ _ (g unit)).1))
+      (any_told w l b h.0 has, zip_told w ls bs h.1 (λ unit. (and_parts _ _ (g unit)).1))
 
   -- the bytes under a number, if they all stay
   loads_under_kept : (n : ℕ) (ls : List LoadByte) → list_any (λ l. not (load_stays l) && is_of n l) ls ≡ false
@@ -253,13 +260,13 @@ module _ (stays : Cut) where
 
   fault_kept : (w : Windows) (event : HistoryEvent) → stays w.moment ≡ true → has_mark_of_request stays w event ≡ true
       → ((unit : UnitPlace) → has_givers unit stays w event ≡ true) → fault w event ≡ None → fault (kept w) event ≡ None
-  fault_kept w (LoadRequest n a len) t marks g f =
-      let p = load_allowed _ _ f in
+  fault_kept w (LoadRequest n a len en) t marks g f =
+      let p = is_allowed _ _ _ f in
       let fresh : list_any (is_of n) (kept_loads w.loads) ≡ false =
-      none_kept told_load load_stays (is_of n) (is_of n) (λ l h. h) w.loads p.1 in
-      rw (p.0, fresh) refl
+      none_kept told_load load_stays (is_of n) (is_of n) (λ l h. h) w.loads p.1.1 in
+      rw (p.0, p.1.0, fresh) refl
   fault_kept w (StoreRequest n a bytes es) t marks g f =
-      let p = store_allowed _ _ _ f in
+      let p = is_allowed _ _ _ f in
       let fresh : list_any (is_open n) (kept_stores w.stores) ≡ false =
       none_kept told store_stays (is_open n) (is_open n) (λ s h. (rw (open_told s.ended) at h)) w.stores p.1.1 in
       rw (p.0, p.1.0, fresh) refl
@@ -288,14 +295,13 @@ module _ (stays : Cut) where
       ++ map f (filter p ys)
   parted f p xs ys = ap (map f) (filter-append p xs ys) ∙ map-append f (filter p xs) (filter p ys)
 
-  loads_told : (n t : ℕ) (c : Bool) → stays t ≡ c → (len a : ℕ)
-      → kept_loads (load_bytes n a len t) ≡ (if c then load_bytes n a len (count t)
+  loads_told : (n x en t : ℕ) (c : Bool) → stays t ≡ c → (len a : ℕ)
+      → kept_loads (map (load_byte n x en t) (range_with_len a len)) ≡ (if c then map (load_byte n x en (count t)) (range_with_len a len)
       else [])
-  loads_told n t true e zero a = refl
-  loads_told n t false e zero a = refl
-  loads_told n t true e (suc len) a = rw e (ap (λ x. told_load (record { number = n; address = a; began = t }) ∷ x) (loads_told n t true e
-      len (a + 1)))
-  loads_told n t false e (suc len) a = rw e (loads_told n t false e len (a + 1))
+  loads_told n x en t true e zero a = refl
+  loads_told n x en t false e zero a = refl
+  loads_told n x en t true e (suc len) a = rw e (ap (λ y. told_load (load_byte n x en t a) ∷ y) (loads_told n x en t true e len (a + 1)))
+  loads_told n x en t false e (suc len) a = rw e (loads_told n x en t false e len (a + 1))
 
   bytes_told : (n t : ℕ) (c : Bool) → stays t ≡ c → (bs : List ℕ) (a es : ℕ) → kept_stores (store_bytes n a bs es t) ≡ (if c then
       store_bytes n a bs es (count t) else [])
@@ -353,9 +359,9 @@ module _ (stays : Cut) where
 
   after_kept : (w : Windows) (event : HistoryEvent) → stays w.moment ≡ true → has_mark_of_request stays w event ≡ true
       → windows_after (kept w) event ≡ kept (windows_after w event)
-  after_kept w (LoadRequest n a len) t marks =
-      made w _ _ _ (windows_after (kept w) (LoadRequest n a len)) refl refl (sym (count_next w.moment true t)) refl
-      (sym (parted told_load load_stays w.loads _ ∙ ap (λ x. kept_loads w.loads ++ x) (loads_told n w.moment true t len a)))
+  after_kept w (LoadRequest n a len en) t marks =
+      made w _ _ _ (windows_after (kept w) (LoadRequest n a len en)) refl refl (sym (count_next w.moment true t)) refl
+      (sym (parted told_load load_stays w.loads _ ∙ ap (λ x. kept_loads w.loads ++ x) (loads_told n a en w.moment true t len a)))
   after_kept w (LoadResponse n bytes) t marks =
       made w _ _ _ (windows_after (kept w) (LoadResponse n bytes)) refl refl (sym (count_next w.moment true t)) refl
       (filter-map told_load (λ l. not (is_of n l)) (filter load_stays w.loads) ∙ ap (map told_load) (filter_swap load_stays (λ l.
@@ -372,9 +378,9 @@ module _ (stays : Cut) where
 
   after_left : (w : Windows) (event : HistoryEvent) → stays w.moment ≡ false → has_mark_of_request stays w event ≡ true
       → kept w ≡ kept (windows_after w event)
-  after_left w (LoadRequest n a len) t marks =
+  after_left w (LoadRequest n a len en) t marks =
       made w _ _ _ (kept w) refl refl (count_same w.moment t) refl (sym (parted told_load load_stays w.loads _ ∙ (ap (λ x.
-      kept_loads w.loads ++ x) (loads_told n w.moment false t len a) ∙ append-nil _)))
+      kept_loads w.loads ++ x) (loads_told n a en w.moment false t len a) ∙ append-nil _)))
   after_left w (LoadResponse n bytes) t marks =
       made w _ _ _ (kept w) refl refl (count_same w.moment t) refl (ap (map told_load) (kept_same load_stays (λ l.
       not (is_of n l)) w.loads (marks_off load_stays (is_of n) (stays w.moment) t w.loads marks)))

@@ -16,14 +16,15 @@ use Rattle.memory_histories.specs.Kept.{IsTimely}
 use Rattle.memory_histories.proofs.Lists.{list_any-agree, list_any-map}
 use Rattle.memory_histories.proofs.Requests.{IsNew}
 use Rattle.atomic_histories.specs.declared.unit.UnitPlace.{UnitPlace}
-use Rattle.atomic_histories.specs.Words.{byte_for, is_as_it_stood}
+use Rattle.atomic_histories.specs.declared.unit.LoadAddress.{LoadAddress}
+use Rattle.atomic_histories.specs.Words.{read_byte, is_as_it_stood}
 use Rattle.atomic_histories.specs.Law.{is_got}
 use Rattle.atomic_histories.specs.Stands.{One}
 use Rattle.atomic_histories.proofs.Lists.{one_weaker, one_left, one_map, one_any}
 use Rattle.history_laws.specs.Cuts.{Cut, stays_from, has_mark_of_request, lacks_giver, has_givers, is_closed_from}
 use Rattle.history_laws.proofs.Words.{lane, lane_word, word_lane, as_none}
 use Rattle.history_laws.proofs.Fits.{after_here}
-use Rattle.history_laws.proofs.Agrees.{load_byte}
+use Rattle.history_laws.proofs.Agrees.{any_byte}
 
 overwritten_requested : (stores added : List StoreByte) (t : ℕ) → All (IsNew t) added → (s : StoreByte) (m : ℕ)
     → is_overwritten (stores ++ added) s m ≡ is_overwritten stores s m
@@ -63,12 +64,12 @@ module _ (unit : UnitPlace) (stays : Cut) where
   none_kept stores began (Some w) other h e = cc
 
   -- no byte that it is answered may be of a store that is left out
-  abbrev pub IsFree : List StoreByte → ℕ → ℕ → List ℕ → Type 0
-  IsFree stores address began bytes = (j b : ℕ) → IsLane unit j → byte_for address bytes (unit.first + j) ≡ Some b
-      → lacks_giver stays stores (load_byte 0 (unit.first + j) began) b ≡ false
+  abbrev pub IsFree : List StoreByte → LoadAddress → ℕ → List ℕ → Type 0
+  IsFree stores address began bytes = (j b : ℕ) → IsLane unit j → read_byte address bytes (unit.first + j) ≡ Some b
+      → lacks_giver stays stores (any_byte (unit.first + j) began) b ≡ false
 
-  kept_byte : (stores : List StoreByte) (address began : ℕ) (bytes : List ℕ) (w v : List (Option ℕ)) (j : ℕ)
-      → IsFree stores address began bytes → IsGotAlike stores began w v j → (o : Option ℕ) → byte_for address bytes (unit.first + j) ≡ o
+  kept_byte : (stores : List StoreByte) (address : LoadAddress) (began : ℕ) (bytes : List ℕ) (w v : List (Option ℕ)) (j : ℕ)
+      → IsFree stores address began bytes → IsGotAlike stores began w v j → (o : Option ℕ) → read_byte address bytes (unit.first + j) ≡ o
       → is_as_it_stood (lane w j) o ≡ true → is_as_it_stood (lane v j) o ≡ true
   kept_byte stores address began bytes w v j spared (inl same) o e h = subst (λ x. is_as_it_stood x o ≡ true) same h
   kept_byte stores address began bytes w v j spared (inr p) None e h = as_none (lane v j)
@@ -77,14 +78,14 @@ module _ (unit : UnitPlace) (stays : Cut) where
       (λ s q. let same : (s.byte == b) ≡ true = subst (λ x. is_as_it_stood x (Some b) ≡ true) q.1.1.0 h in
       rw (q.0, eq-eqb s.address (unit.first + j) q.1.0, same, q.1.1.1) refl) stores p.1)))
 
-  pub kept_got : (stores : List StoreByte) (address began : ℕ) (bytes : List ℕ) (got other : Option (List (Option ℕ)))
+  pub kept_got : (stores : List StoreByte) (address : LoadAddress) (began : ℕ) (bytes : List ℕ) (got other : Option (List (Option ℕ)))
       → IsFree stores address began bytes → GotAlike stores began got other → is_got unit address bytes got ≡ true
       → is_got unit address bytes other ≡ true
   kept_got stores address began bytes None other spared g h = cc
   kept_got stores address began bytes (Some w) None spared g h = absurd g
   kept_got stores address began bytes (Some w) (Some v) spared g h =
       lane_word unit.first v address bytes (λ j l. kept_byte stores address began bytes w v j spared (g.1 j (subst (λ n. j < n) g.0 l))
-      (byte_for address bytes (unit.first + j)) refl (word_lane unit.first w address bytes j h))
+      (read_byte address bytes (unit.first + j)) refl (word_lane unit.first w address bytes j h))
 
   -- What it may have got stays so. ----
 
@@ -149,8 +150,8 @@ over image rest w = record { image = image; rest = rest; moment = w.moment; stor
 pub closed_over : (image : List ℕ) (rest : Rest) (unit : UnitPlace) (stays : Cut) (w : Windows) (history : List HistoryEvent)
     → is_closed_from unit stays (over image rest w) history ≡ is_closed_from unit stays w history
 closed_over image rest unit stays w [] = refl
-closed_over image rest unit stays w (LoadRequest n a len ∷ es) =
-    closed_over image rest unit stays (windows_after w (LoadRequest n a len)) es
+closed_over image rest unit stays w (LoadRequest n a len e ∷ es) =
+    closed_over image rest unit stays (windows_after w (LoadRequest n a len e)) es
 closed_over image rest unit stays w (LoadResponse n bytes ∷ es) =
     ap (λ t. (has_mark_of_request stays w (LoadResponse n bytes) && has_givers unit stays w (LoadResponse n bytes)) && t)
     (closed_over image rest unit stays (windows_after w (LoadResponse n bytes)) es)

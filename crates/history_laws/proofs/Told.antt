@@ -7,12 +7,13 @@ use Rattle.std.specs.Int.{bit_at}
 use Rattle.std.specs.List.{filter, list_any}
 use Rattle.std.specs.Option.{option_and_then}
 use Rattle.std.proofs.lemmas.Bool.{cases_Bool, cases_eq, cases_lt, and_parts, ne_eqb, ltb-true, false_from_ne_true, both_ways}
-use Rattle.std.proofs.lemmas.Nat.Bits.{bit_at-suc, bit_at-lt, and_pow}
+use Rattle.std.proofs.lemmas.Nat.Bits.{bit_at-suc, bit_at-lt, bit_at_ones, and_pow}
 use Rattle.std.proofs.lemmas.List.{get_or-set_same, get_or-set_other, length-set}
 use Rattle.std.proofs.lemmas.List.Elements.{filter-append}
 use Rattle.std.proofs.lemmas.Option.{slice_get_past}
 use Rattle.atomic_histories.proofs.Bits.{stored_from_first}
 use Rattle.memory_histories.specs.declared.events.HistoryEvent.{HistoryEvent}
+use Rattle.memory_histories.specs.declared.events.TheConstants.{ALL_ENABLED}
 use Rattle.memory_histories.specs.declared.events.HistoryEvent.TheVariants.{LoadRequest, LoadResponse, StoreRequest, StoreResponse}
 use Rattle.memory_histories.specs.declared.events.Rest.{Rest}
 use Rattle.memory_histories.specs.declared.events.Rest.TheVariants.{Zeros}
@@ -21,7 +22,7 @@ use Rattle.memory_histories.specs.declared.reasons.Owed.TheVariants as owed
 use Rattle.memory_histories.specs.declared.reasons.StoreName.{StoreName}
 use Rattle.memory_histories.specs.declared.flat.OwedByte.{OwedByte}
 use Rattle.memory_histories.specs.Regular.{is_inside, has_enabled, load_response_fault}
-use Rattle.memory_histories.specs.Flat.{Flat, initial, stored, owed_bytes, is_paid_by, may_return, is_of, flat_fault, flat_after}
+use Rattle.memory_histories.specs.Flat.{Flat, initial, stored, asked, owed_bytes, is_paid_by, may_return, is_of, flat_fault, flat_after}
 use Rattle.memory_histories.specs.Flat.{flat_run}
 use Rattle.memory_histories.specs.Flat as flat
 use Rattle.atomic_histories.specs.Words.{enabled_byte, stored_byte, written_byte}
@@ -184,6 +185,16 @@ module _ (n : ℕ) (fits : n ≤ 4611686018427387904) where
       → filter (is_of t) (owed_bytes memory tag (4 * at) 4) ≡ (if tag == t then owed_bytes memory tag (4 * at) 4 else [])
   its_bytes memory tag at t = grind arith
 
+  -- a load of a whole word asks for each byte
+  asked_all : (memory : ℕ → Owed) (tag a x len : ℕ) → a ≤ x → x + len ≤ a + 64
+      → owed_bytes (asked memory a ALL_ENABLED) tag x len ≡ owed_bytes memory tag x len
+  asked_all memory tag a x zero l h = refl
+  asked_all memory tag a x (suc len) l h =
+      let bit : bit_at ALL_ENABLED (x - a) ≡ 1 = bit_at_ones 64 (x - a) (omega arith) in
+      let one : asked memory a ALL_ENABLED x ≡ memory x = rw bit refl in
+      let more = asked_all memory tag a (x + 1) len (omega arith) (omega arith) in
+      λ i. record { number = tag; address = x; owed = one i } ∷ more i
+
   loads_with : (s : model.Flat) (f : Flat) → Tells n s f → (tag at : ℕ) → at < n → is_none (s.due tag) ≡ true → (t : ℕ)
       → knowns (filter (is_of t) (f.loads
       ++ owed_bytes f.memory tag (4 * at) 4)) ≡ due_bytes (with_due s.due tag (Some (word_at s.mem at)) t)
@@ -202,17 +213,24 @@ module _ (n : ℕ) (fits : n ≤ 4611686018427387904) where
       ])
 
   load_accepted : (s : model.Flat) (f : Flat) → Tells n s f → (tag at : ℕ) → (nat_lt at (length s.mem) && is_none (s.due tag)) ≡ true
-      → (g : Flat) × ((flat_run f (LoadRequest tag (4 * at) 4 ∷ []) ≡ Some g)
+      → (g : Flat) × ((flat_run f (LoadRequest tag (4 * at) 4 ALL_ENABLED ∷ []) ≡ Some g)
       × Tells n (record { mem = s.mem; due = with_due s.due tag (Some (word_at s.mem at)) }) g)
   load_accepted s f h tag at may =
       let p = and_parts _ _ may in
       let l = subst (λ m. at < m) h.size (ltb-true at (length s.mem) p.0) in
       let none : filter _ f.loads ≡ [] = none_known _ (h.due tag ∙ due_none _ p.1) in
-      let right : flat_fault f (LoadRequest tag (4 * at) 4) ≡ None = rw (inside_word n at fits l, none_of _ f.loads none) refl in (
-        flat_after f (LoadRequest tag (4 * at) 4),
+      let right : flat_fault f (LoadRequest tag (4 * at) 4 ALL_ENABLED)
+      ≡ None = rw (inside_word n at fits l, none_of _ f.loads none) refl in (
+        flat_after f (LoadRequest tag (4 * at) 4 ALL_ENABLED),
         (
           rw right refl,
-          record { size = h.size; words = h.words; due = loads_with s f h tag at l p.1; no_stores = h.no_stores },
+          record {
+            size = h.size;
+            words = h.words;
+            due = λ t. ap (λ ys. knowns (filter (is_of t) (f.loads ++ ys)))
+                (asked_all f.memory tag (4 * at) (4 * at) 4 (omega arith) (omega arith)) ∙ loads_with s f h tag at l p.1 t;
+            no_stores = h.no_stores;
+          },
         ),
       )
 
@@ -423,7 +441,7 @@ run_is_flat rest image events answers fits t = run_from _ fits _ _
 -- What the machine answers. ----
 
 returned : (event : HistoryEvent) → ReturnsBytes Zeros event
-returned (LoadRequest number address n) = tt
+returned (LoadRequest number address n enables) = tt
 returned (LoadResponse number bytes) = λ k d l. tt
 returned (StoreRequest number address bytes enables) = tt
 returned (StoreResponse number) = tt

@@ -11,7 +11,8 @@ use Rattle.memory_histories.specs.declared.windows.StoreByte.{StoreByte}
 use Rattle.memory_histories.specs.Windows.{store_bytes, cons_if, is_open}
 use Rattle.memory_histories.specs.Regular.{has_enabled}
 use Rattle.atomic_histories.specs.declared.unit.UnitPlace.{UnitPlace}
-use Rattle.atomic_histories.specs.Words.{at_lane, at_unit, byte_for, enabled_byte, stored_byte, written_byte, written, is_as_it_stood}
+use Rattle.atomic_histories.specs.declared.unit.LoadAddress.{LoadAddress}
+use Rattle.atomic_histories.specs.Words.{at_lane, at_unit, read_byte, enabled_byte, stored_byte, written_byte, written, is_as_it_stood}
 use Rattle.atomic_histories.specs.Words.{is_word_of}
 use Rattle.atomic_histories.specs.Stands.{Each, One}
 use Rattle.atomic_histories.proofs.Lists.{each_weaker}
@@ -47,22 +48,22 @@ lane_map g (suc n) i (suc j) h = lane_map g n _ j (omega arith) ∙ ap g (omega 
 pub lane_unit : (unit : UnitPlace) (f : ℕ → Option ℕ) (j : ℕ) → j < unit.size → j < 8 → lane (at_unit unit f) j ≡ f (unit.first + j)
 lane_unit unit f j h l = lane_map (at_lane unit f) 8 0 j l ∙ (ap (at_lane unit f) (zero_plus j) ∙ rw (lt-ltb j unit.size h) refl)
 
-pub word_lane : (first : ℕ) (ws : List (Option ℕ)) (a : ℕ) (bs : List ℕ) (j : ℕ) → is_word_of first ws a bs ≡ true
-    → is_as_it_stood (lane ws j) (byte_for a bs (first + j)) ≡ true
+pub word_lane : (first : ℕ) (ws : List (Option ℕ)) (a : LoadAddress) (bs : List ℕ) (j : ℕ) → is_word_of first ws a bs ≡ true
+    → is_as_it_stood (lane ws j) (read_byte a bs (first + j)) ≡ true
 unfolding is_word_of
 word_lane first [] a bs j h = refl
 word_lane first (w ∷ ws) a bs zero h = grind arith
 word_lane first (w ∷ ws) a bs (suc j) h = subst (λ x.
-    is_as_it_stood (lane ws j) (byte_for a bs x) ≡ true) (omega arith) (word_lane (first + 1) ws a bs j (and_parts _ _ h).1)
+    is_as_it_stood (lane ws j) (read_byte a bs x) ≡ true) (omega arith) (word_lane (first + 1) ws a bs j (and_parts _ _ h).1)
 
-pub lane_word : (first : ℕ) (ws : List (Option ℕ)) (a : ℕ) (bs : List ℕ) → ((j : ℕ) → j < length ws
-    → is_as_it_stood (lane ws j) (byte_for a bs (first + j)) ≡ true) → is_word_of first ws a bs ≡ true
+pub lane_word : (first : ℕ) (ws : List (Option ℕ)) (a : LoadAddress) (bs : List ℕ) → ((j : ℕ) → j < length ws
+    → is_as_it_stood (lane ws j) (read_byte a bs (first + j)) ≡ true) → is_word_of first ws a bs ≡ true
 unfolding is_word_of
 lane_word first [] a bs h = refl
 lane_word first (w ∷ ws) a bs h =
-    and_from _ _ (subst (λ x. is_as_it_stood w (byte_for a bs x) ≡ true) (omega arith) (h 0 (omega arith)))
+    and_from _ _ (subst (λ x. is_as_it_stood w (read_byte a bs x) ≡ true) (omega arith) (h 0 (omega arith)))
     (lane_word (first + 1) ws a bs (λ j l. subst (λ x.
-    is_as_it_stood (lane ws j) (byte_for a bs x) ≡ true) (omega arith) (h (suc j) (omega arith))))
+    is_as_it_stood (lane ws j) (read_byte a bs x) ≡ true) (omega arith) (h (suc j) (omega arith))))
 
 pub some_lane : (ws : List (Option ℕ)) → list_any is_some ws ≡ true → (j : ℕ) × ((b : ℕ) × (lane ws j ≡ Some b))
 some_lane [] h = cc

@@ -3,6 +3,7 @@ use Rattle.std.proofs.Common.{◌≡◌, ℕ, ◌+◌, ◌≤◌, true, false, L
 use Rattle.std.specs.Borrow.{Bor}
 use Rattle.std.proofs.lemmas.Bool.{both_ways}
 use Rattle.memory_histories.specs.declared.events.HistoryEvent.{HistoryEvent}
+use Rattle.memory_histories.specs.declared.events.TheConstants.{ALL_ENABLED}
 use Rattle.memory_histories.specs.declared.events.HistoryEvent.TheVariants.{LoadRequest, LoadResponse, StoreRequest, StoreResponse}
 use Rattle.memory_histories.specs.declared.events.Rest.TheVariants.{Zeros}
 use Rattle.atomic_histories.specs.declared.unit.UnitPlace.{UnitPlace}
@@ -25,7 +26,7 @@ abbrev store : ℕ → ℕ → List HistoryEvent
 store number b = StoreRequest number 4096 (bytes (b ∷ [])) 1 ∷ StoreResponse number ∷ []
 
 abbrev load : ℕ → ℕ → List HistoryEvent
-load number b = LoadRequest number 4096 1 ∷ LoadResponse number (bytes (b ∷ [])) ∷ []
+load number b = LoadRequest number 4096 1 ALL_ENABLED ∷ LoadResponse number (bytes (b ∷ [])) ∷ []
 
 -- what was requested from a moment on stays
 abbrev from : ℕ → Cut
@@ -48,8 +49,9 @@ one_goes = refl
 
 two_are_wrong : ¬ (IsAtomicAt [] Zeros pair (store 4 51 ++ load 5 17))
 two_are_wrong h =
-    let k : Marked ℕ = record { operation = record { number = 5; address = 4096; length = 1 }; mark = 2 } in
-    both_ways false refl (allowed_byte [] Zeros pair 0 (omega arith) (omega arith) (store 4 51 ++ LoadRequest 5 4096 1 ∷ []) 5 (bytes
+    let k : Marked ℕ = record { operation = record { number = 5; address = 4096; length = 1; enables = ALL_ENABLED }; mark = 2 } in
+    both_ways false refl (allowed_byte [] Zeros pair 0 (omega arith) (omega arith) (store 4 51 ++ LoadRequest 5 4096 1 ALL_ENABLED
+    ∷ []) 5 (bytes
     (17 ∷ [])) h refl k refl (omega arith) (omega arith) refl 17 tt refl)
 
 -- so the history is wrong, whatever else it holds
@@ -74,8 +76,9 @@ not_closed = refl
 
 pub its_load_is_wrong : ¬ (IsAtomicAt [] Zeros pair (what_stays (from 2) right))
 its_load_is_wrong h =
-    let k : Marked ℕ = record { operation = record { number = 2; address = 4096; length = 1 }; mark = 0 } in
-    both_ways false refl (allowed_byte [] Zeros pair 0 (omega arith) (omega arith) (LoadRequest 2 4096 1 ∷ []) 2 (bytes (17 ∷ [])) h refl k
+    let k : Marked ℕ = record { operation = record { number = 2; address = 4096; length = 1; enables = ALL_ENABLED }; mark = 0 } in
+    both_ways false refl (allowed_byte [] Zeros pair 0 (omega arith) (omega arith) (LoadRequest 2 4096 1 ALL_ENABLED
+    ∷ []) 2 (bytes (17 ∷ [])) h refl k
     refl (omega arith) (omega arith) refl 17 tt refl)
 
 -- A store that is never answered overwrites nothing, and one that is answered between the two does. ----

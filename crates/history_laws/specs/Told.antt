@@ -3,6 +3,7 @@ use Rattle.std.specs.Prelude.{ℕ, ◌≡◌, ◌*◌, ◌≤◌, IsTrue, List, 
 use Rattle.std.specs.Borrow.{Bor}
 use Rattle.memory_histories.specs.declared.events.HistoryEvent.{HistoryEvent}
 use Rattle.memory_histories.specs.declared.events.HistoryEvent.TheVariants.{LoadRequest, LoadResponse, StoreRequest, StoreResponse}
+use Rattle.memory_histories.specs.declared.events.TheConstants.{ALL_ENABLED}
 use Rattle.memory_histories.specs.declared.events.Rest.TheVariants.{Zeros}
 use Rattle.machine_core.specs.Words.{Word, Event, Load, Store, Take, Answer, Accepted, Value, Sizes}
 use Rattle.flat_model.specs.Flat.{opening, flat_run}
@@ -25,7 +26,7 @@ seen_bytes bytes = record { ref_ptr = (0, 0); now = bytes }
 -- what is told of an event and its answer: a load is open from its acceptance, under its tag, to its value, and a store is answered
 -- at its acceptance
 abbrev pub told_events : Event → Answer → List HistoryEvent
-told_events (Load tag at) Accepted = LoadRequest tag (4 * at) 4 ∷ []
+told_events (Load tag at) Accepted = LoadRequest tag (4 * at) 4 ALL_ENABLED ∷ []
 told_events (Store at word lanes) Accepted = StoreRequest 0 (4 * at) (seen_bytes (word_bytes word)) lanes.0 ∷ StoreResponse 0 ∷ []
 told_events (Take place) (Value tag word) = LoadResponse tag (seen_bytes (word_bytes word)) ∷ []
 told_events event answer = []

@@ -33,7 +33,7 @@ under number loads = sym (find-map load_operation (λ o. o.number == number) loa
 
 loads_noted : (loads : List OpenLoad) (moment : ℕ) (event : HistoryEvent)
     → map load_operation (told_loads loads moment event) ≡ loads_then (map load_operation loads) event
-loads_noted loads moment (LoadRequest number address n) = grind (arith, map-append)
+loads_noted loads moment (LoadRequest number address n enables) = grind (arith, map-append)
 loads_noted loads moment (LoadResponse number bytes) = grind (arith, filter-map)
 loads_noted loads moment event = refl
 

@@ -1,5 +1,5 @@
 -- Worked reasons, each checked by computing.
-use Rattle.std.specs.Prelude.{ℕ, ◌≡◌, [], ◌∷◌, Option, Some, None}
+use Rattle.std.specs.Prelude.{ℕ, ◌≡◌, true, [], ◌∷◌, Option, Some, None}
 use Rattle.std.proofs.Common.{refl}
 use Rattle.memory_histories.specs.declared.events.Rest.TheVariants.{Zeros}
 use Rattle.memory_histories.specs.declared.windows.StoreByte.{StoreByte}
@@ -16,7 +16,7 @@ abbrev second : StoreByte
 second = record { number = 2; address = 4096; byte = 17; began = 2; ended = Some 3 }
 
 abbrev reason : ℕ → Option Reason
-reason b = last_reason [] Zeros (first ∷ second ∷ []) (record { number = 1; address = 4096; began = 4 }) b
+reason b = last_reason [] Zeros (first ∷ second ∷ []) (record { number = 1; address = 4096; began = 4; enabled = true }) b
 
 pub stale_byte : reason 90 ≡ Some (StoreOverwritten first second)
 stale_byte = refl
@@ -39,7 +39,7 @@ fourth = record { number = 4; address = 4096; byte = 18; began = 6; ended = Some
 
 abbrev later_reason : ℕ → Option Reason
 later_reason b =
-    last_reason [] Zeros (first ∷ second ∷ third ∷ fourth ∷ []) (record { number = 1; address = 4096; began = 8 }) b
+    last_reason [] Zeros (first ∷ second ∷ third ∷ fourth ∷ []) (record { number = 1; address = 4096; began = 8; enabled = true }) b
 
 pub last_store : later_reason 90 ≡ Some (StoreOverwritten third fourth)
 last_store = refl

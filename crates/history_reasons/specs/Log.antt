@@ -61,7 +61,7 @@ idle w = record { image = w.image; rest = w.rest; moment = w.moment + 1; stores 
 
 -- whether an operation that an event requests lies within memory
 abbrev pub is_within : HistoryEvent → Bool
-is_within (LoadRequest number address n) = is_inside address n
+is_within (LoadRequest number address n enables) = is_inside address n
 is_within (StoreRequest number address bytes enables) = is_inside address (length bytes.now)
 is_within (LoadResponse number bytes) = true
 is_within (StoreResponse number) = true
@@ -78,7 +78,7 @@ noted_stores stores moment (StoreResponse number) = map (after_response number m
 noted_stores stores moment event = stores
 
 abbrev pub noted_loads : List LoadByte → ℕ → HistoryEvent → List LoadByte
-noted_loads loads moment (LoadRequest number address n) = loads ++ load_bytes number address n moment
+noted_loads loads moment (LoadRequest number address n enables) = loads ++ load_bytes number address n enables moment
 noted_loads loads moment (LoadResponse number bytes) = filter (λ l. not (is_of number l)) loads
 noted_loads loads moment event = loads
 
@@ -102,8 +102,8 @@ noted_places places stores (StoreResponse number) = filter (λ p. not (is_place_
 noted_places places stores event = places
 
 abbrev pub told_loads : List OpenLoad → ℕ → HistoryEvent → List OpenLoad
-told_loads loads moment (LoadRequest number address n) =
-    loads ++ (record { number = number; address = address; length = n; began = moment }) ∷ []
+told_loads loads moment (LoadRequest number address n enables) =
+    loads ++ (record { number = number; address = address; length = n; enables = enables; began = moment }) ∷ []
 told_loads loads moment (LoadResponse number bytes) = without_load number loads
 told_loads loads moment event = loads
 

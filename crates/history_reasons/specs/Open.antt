@@ -35,7 +35,7 @@ without_operation number operations = filter (λ o. not (o.number == number)) op
 
 -- the loads and the stores that are open after an event
 abbrev pub loads_then : List OpenOperation → HistoryEvent → List OpenOperation
-loads_then loads (LoadRequest number address n) = with_operation number address n loads
+loads_then loads (LoadRequest number address n enables) = with_operation number address n loads
 loads_then loads (LoadResponse number bytes) = without_operation number loads
 loads_then loads event = loads
 

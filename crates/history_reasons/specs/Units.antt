@@ -1,15 +1,20 @@
 -- Why an answer is wrong in a unit of memory.
-use Rattle.std.specs.Prelude.{ℕ, ◌+◌, ◌-◌, ◌%◌, min, List, [], ◌∷◌, take, drop, Option, Some, None}
+use Rattle.std.specs.Prelude.{ℕ, ◌+◌, ◌-◌, ◌%◌, if◌then◌else◌, min, List, [], ◌∷◌, take, drop, Option, Some, None}
 use Rattle.std.specs.List.{find}
 use Rattle.std.specs.Option.{option_and_then}
+use Rattle.memory_histories.specs.declared.windows.LoadByte.{LoadByte}
 use Rattle.memory_histories.specs.Windows.{Windows, is_at}
 use Rattle.history_reasons.specs.declared.Reason.{Reason}
 use Rattle.history_reasons.specs.declared.units.FoundReason.{FoundReason}
 use Rattle.history_reasons.specs.Log.{told_reason}
 
+-- why a load may not return a byte, if it is enabled
+abbrev pub enabled_reason : Windows → LoadByte → ℕ → Option Reason
+enabled_reason w l b = if l.enabled then told_reason w l b else None
+
 -- why the load that is open under a number may not return a byte at an address; nothing is told if no such load asks for it
 abbrev pub reason_at : Windows → ℕ → ℕ → ℕ → Option Reason
-reason_at w number address b = option_and_then (λ l. told_reason w l b) (find (is_at number address) w.loads)
+reason_at w number address b = option_and_then (λ l. enabled_reason w l b) (find (is_at number address) w.loads)
 
 -- the address of the byte at this place of an operation, none of which runs over the last address
 abbrev pub address_at : ℕ → ℕ → ℕ

@@ -5,7 +5,7 @@ ghost use Rattle.std.specs.List.{find};
 ghost use Rattle.std.specs.Option.{option_map};
 ghost use Rattle.history_reasons.specs.Loads.{asks_for, byte_at, without_load};
 
-use memory_histories::LoadByte;
+use memory_histories::{LoadByte, is_enabled};
 
 /// So many bytes from an address on.
 #[derive(Clone, Copy)]
@@ -13,6 +13,7 @@ pub struct OpenLoad {
     pub(crate) number: u64,
     pub(crate) address: u64,
     pub(crate) length: usize,
+    pub(crate) enables: u64,
     pub(crate) began: u64,
 }
 
@@ -49,6 +50,7 @@ fn byte_at(load: OpenLoad, address: u64) -> LoadByte
         number: load.number,
         address,
         began: load.began,
+        enabled: is_enabled(load.enables, address.saturating_sub(load.address)),
     }
 }
 

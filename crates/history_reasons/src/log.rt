@@ -158,10 +158,12 @@ impl StoreLog {
                 number,
                 address,
                 length,
+                enables,
             } => self.loads.push_reserved(OpenLoad {
                 number,
                 address,
                 length,
+                enables,
                 began: self.moment,
             }),
             HistoryEvent::LoadResponse { number, bytes: _ } => end_load(&mut self.loads, number),
@@ -376,6 +378,7 @@ fn is_within(event: HistoryEvent) -> bool
             number: _,
             address,
             length,
+            enables: _,
         } => is_inside(address, length),
         HistoryEvent::StoreRequest {
             number: _,

@@ -69,7 +69,11 @@ impl StoreLog {
             → result ≡ reason_at w number address byte }
     {
         let load = self.load_at(number, address)?;
-        self.why(&load, byte)
+        if load.enabled {
+            self.why(&load, byte)
+        } else {
+            None
+        }
     }
 }
 

@@ -36,7 +36,7 @@ same : {X : Type 0} (f : HistoryEvent → X)
     → ((n : ℕ) (bytes : Bor (List ℕ)) → f (LoadResponse n (held bytes.now)) ≡ f (LoadResponse n bytes))
     → ((n a : ℕ) (bytes : Bor (List ℕ)) (enables : ℕ) → f (StoreRequest n a (held bytes.now) enables) ≡ f (StoreRequest n a bytes enables))
     → (e : HistoryEvent) → f (plain e) ≡ f e
-same f load store (LoadRequest n a count) = refl
+same f load store (LoadRequest n a count enables) = refl
 same f load store (LoadResponse n bytes) = load n bytes
 same f load store (StoreRequest n a bytes enables) = store n a bytes enables
 same f load store (StoreResponse n) = refl
@@ -161,7 +161,7 @@ wrong_place a (LoadResponse number bytes) place (k, o, found, at, left, never, b
       λ h. never (atomic_at a.image a.rest (unit_at a.size k) a.events (plain e) e (alike_plain e) h),
       λ j lt there. atomic_at a.image a.rest _ a.events e _ (plain_alike e) (below j lt there),
     )
-wrong_place a (LoadRequest number address n) place h = absurd h
+wrong_place a (LoadRequest number address n enables) place h = absurd h
 wrong_place a (StoreRequest number address bytes enables) place h = absurd h
 wrong_place a (StoreResponse number) place h = absurd h
 
@@ -175,7 +175,7 @@ fault_too a e NotOpen h = (alike_plain e).faulty _ ∙ h
 fault_too a e WrongLength h = (alike_plain e).faulty _ ∙ h
 
 wide : (limit : ℕ) (h : Held) (e : HistoryEvent) (address : ℕ) → IsWide limit h e address → IsWide limit h (plain e) address
-wide limit h (LoadRequest number at n) address w = w
+wide limit h (LoadRequest number at n enables) address w = w
 wide limit h (LoadResponse number bytes) address w = w
 wide limit h (StoreRequest number at bytes enables) address w = w
 wide limit h (StoreResponse number) address w = w

@@ -18,13 +18,13 @@ use Rattle.history_sessions.specs.Session.{Session, session_opening, session_aft
 
 -- an event is a moment
 pub one_moment : (w : Windows) (e : HistoryEvent) → (windows_after w e).moment ≡ w.moment + 1
-one_moment w (LoadRequest n a count) = refl
+one_moment w (LoadRequest n a count enables) = refl
 one_moment w (LoadResponse n bytes) = refl
 one_moment w (StoreRequest n a bytes enables) = refl
 one_moment w (StoreResponse n) = refl
 
 flat_moment : (f : Flat) (e : HistoryEvent) → (flat_after f e).moment ≡ f.moment + 1
-flat_moment f (LoadRequest n a count) = refl
+flat_moment f (LoadRequest n a count enables) = refl
 flat_moment f (LoadResponse n bytes) = refl
 flat_moment f (StoreRequest n a bytes enables) = refl
 flat_moment f (StoreResponse n) = refl
@@ -44,7 +44,7 @@ one_more number address n os = length-append os (record { number = number; addre
 -- it opens one operation at most
 opened_after : (ls ss : List OpenOperation) (e : HistoryEvent)
     → length (loads_then ls e) + length (stores_then ss e) ≤ length ls + length ss + 1
-opened_after ls ss (LoadRequest n a count) = omega (arith, one_more n a count ls)
+opened_after ls ss (LoadRequest n a count enables) = omega (arith, one_more n a count ls)
 opened_after ls ss (LoadResponse n bytes) = omega (arith, fewer n ls)
 opened_after ls ss (StoreRequest n a bytes enables) = omega (arith, one_more n a (length bytes.now) ss)
 opened_after ls ss (StoreResponse n) = omega (arith, fewer n ss)

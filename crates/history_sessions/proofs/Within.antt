@@ -4,7 +4,7 @@ use Rattle.std.specs.Prelude.{◌+◌, ◌<◌}
 use Rattle.memory_histories.specs.declared.events.HistoryEvent.{HistoryEvent}
 use Rattle.memory_histories.specs.declared.events.HistoryEvent.TheVariants.{LoadRequest, LoadResponse, StoreRequest, StoreResponse}
 use Rattle.memory_histories.specs.Windows.{Windows, windows_after}
-use Rattle.memory_histories.specs.Regular.{fault, load_request_fault, store_request_fault}
+use Rattle.memory_histories.specs.Regular.{fault, request_fault}
 use Rattle.memory_histories.specs.Flat.{Flat, flat_fault}
 use Rattle.atomic_histories.specs.Operations.{Opened, form_fault}
 use Rattle.history_reasons.specs.declared.log.StoreLog.{StoreLog}
@@ -12,29 +12,25 @@ use Rattle.history_reasons.specs.Log.{is_within, IsLogOf}
 use Rattle.history_sessions.specs.History.{History, OfRegular, OfFlat, OfAtomic, Passes}
 use Rattle.history_sessions.proofs.AtomicJudge.{formed}
 
-load_inside : (inside used : Bool) → load_request_fault inside used ≡ None → inside ≡ true
-load_inside true used h = refl
-load_inside false used h = cc
-
-store_inside : (inside any used : Bool) → store_request_fault inside any used ≡ None → inside ≡ true
-store_inside true any used h = refl
-store_inside false any used h = cc
+requested_inside : (inside any used : Bool) → request_fault inside any used ≡ None → inside ≡ true
+requested_inside true any used h = refl
+requested_inside false any used h = cc
 
 by_regular : (w : Windows) (event : HistoryEvent) → fault w event ≡ None → is_within event ≡ true
-by_regular w (LoadRequest number address n) h = load_inside _ _ h
-by_regular w (StoreRequest number address bytes enables) h = store_inside _ _ _ h
+by_regular w (LoadRequest number address n enables) h = requested_inside _ _ _ h
+by_regular w (StoreRequest number address bytes enables) h = requested_inside _ _ _ h
 by_regular w (LoadResponse number bytes) h = refl
 by_regular w (StoreResponse number) h = refl
 
 by_flat : (f : Flat) (event : HistoryEvent) → flat_fault f event ≡ None → is_within event ≡ true
-by_flat f (LoadRequest number address n) h = load_inside _ _ h
-by_flat f (StoreRequest number address bytes enables) h = store_inside _ _ _ h
+by_flat f (LoadRequest number address n enables) h = requested_inside _ _ _ h
+by_flat f (StoreRequest number address bytes enables) h = requested_inside _ _ _ h
 by_flat f (LoadResponse number bytes) h = refl
 by_flat f (StoreResponse number) h = refl
 
 by_form : (o : Opened) (event : HistoryEvent) → form_fault o event ≡ None → is_within event ≡ true
-by_form o (LoadRequest number address n) h = load_inside _ _ h
-by_form o (StoreRequest number address bytes enables) h = store_inside _ _ _ h
+by_form o (LoadRequest number address n enables) h = requested_inside _ _ _ h
+by_form o (StoreRequest number address bytes enables) h = requested_inside _ _ _ h
 by_form o (LoadResponse number bytes) h = refl
 by_form o (StoreResponse number) h = refl
 

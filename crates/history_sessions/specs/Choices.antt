@@ -1,6 +1,7 @@
 -- Whether an answered load had a choice.
 use Rattle.std.specs.Prelude.{⊤, ℕ, zero, suc, ◌≡◌, ◌<◌, ◌==◌, ◌&&◌, ◌||◌, not, Bool, true, false, List}
 use Rattle.std.specs.Prelude.{length, slice_index, Option, Some, None, Result, Ok, Err}
+use Rattle.std.specs.Int.{bit_at}
 use Rattle.std.specs.List.{find}
 use Rattle.std.specs.Option.{option_map}
 use Rattle.memory_histories.specs.declared.events.HistoryEvent.{HistoryEvent}
@@ -34,17 +35,18 @@ pub record IsTold (j : Judge) (h : History) (number : ℕ) (address : ℕ) (b : 
   pub law : IsSetFound j h number address told
   pub is : another ≡ has_another b told
 
--- a load that began at an address may be answered with these bytes: it had a choice if one of them might have been another
-abbrev pub HadChoice : Judge → History → ℕ → ℕ → List ℕ → Bool → Type 0
-HadChoice j h number address bytes true =
-    (k : ℕ) × (k < length bytes) × IsTold j h number (address_at address k) (slice_index bytes k) true
-HadChoice j h number address bytes false =
-    (k : ℕ) → k < length bytes → IsTold j h number (address_at address k) (slice_index bytes k) false
+-- a load that began at an address, and enables the bytes of a mask, may be answered with these: it had a choice if one that it
+-- enables might have been another
+abbrev pub HadChoice : Judge → History → ℕ → ℕ → ℕ → List ℕ → Bool → Type 0
+HadChoice j h number address mask bytes true =
+    (k : ℕ) × (k < length bytes) × (bit_at mask k ≡ 1) × IsTold j h number (address_at address k) (slice_index bytes k) true
+HadChoice j h number address mask bytes false =
+    (k : ℕ) → k < length bytes → bit_at mask k ≡ 1 → IsTold j h number (address_at address k) (slice_index bytes k) false
 
 -- the load that is open under the number of an answer, if it is one that is counted. No other event has a choice
 abbrev pub HadChoiceOf : Judge → History → Option WatchedOperation → ℕ → List ℕ → Bool → Type 0
 HadChoiceOf j h None number bytes had_choice = had_choice ≡ false
-HadChoiceOf j h (Some o) number bytes had_choice = HadChoice j h number o.address bytes had_choice
+HadChoiceOf j h (Some o) number bytes had_choice = HadChoice j h number o.address o.bytes bytes had_choice
 
 abbrev pub IsChoice : Judge → History → Covered → HistoryEvent → Bool → Type 0
 IsChoice j h c (LoadResponse number bytes) had_choice = HadChoiceOf j h (find (is_under false number) c.open_) number bytes.now had_choice

@@ -96,8 +96,8 @@ watched is_store number address bytes =
 
 -- an event was taken. If it answers a load, that had a choice or it had none
 abbrev pub covered_after : Bool → Covered → HistoryEvent → Covered
-covered_after had_choice c (LoadRequest number address n) =
-    requested (watched false number address (mask_of n 18446744073709551615)) c
+covered_after had_choice c (LoadRequest number address n enables) =
+    requested (watched false number address (mask_of n enables)) c
 covered_after had_choice c (StoreRequest number address bytes enables) =
     requested (watched true number address (mask_of (length bytes.now) enables)) c
 covered_after had_choice c (LoadResponse number bytes) = answered false number had_choice c

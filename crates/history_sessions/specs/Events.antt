@@ -10,7 +10,7 @@ held bytes = record { ref_ptr = (0, 0); now = bytes }
 
 -- an event by its numbers and bytes alone
 abbrev pub plain : HistoryEvent → HistoryEvent
-plain (LoadRequest number address length) = LoadRequest number address length
+plain (LoadRequest number address length enables) = LoadRequest number address length enables
 plain (LoadResponse number bytes) = LoadResponse number (held bytes.now)
 plain (StoreRequest number address bytes enables) = StoreRequest number address (held bytes.now) enables
 plain (StoreResponse number) = StoreResponse number

@@ -63,7 +63,7 @@ history_forgetting address (OfAtomic a) = OfAtomic (forgetting address a)
 
 -- which bytes the load that is open under a number may return at an address, if it asks for that byte
 abbrev pub may_by_regular : Windows → ℕ → ℕ → Option (ℕ → Bool)
-may_by_regular w number address = option_map (λ l. regular.may_return w l) (find (windows.is_at number address) w.loads)
+may_by_regular w number address = option_map (λ l. regular.is_allowed w l) (find (windows.is_at number address) w.loads)
 
 abbrev pub may_by_flat : Flat → ℕ → ℕ → Option (ℕ → Bool)
 may_by_flat f number address = option_map (λ l. flat.may_return l) (find (flat.is_at number address) f.loads)

@@ -3,6 +3,7 @@
 -- of the events of a memory
 pub use Rattle.memory_histories.specs.declared.events.HistoryEvent.{HistoryEvent}
 pub use Rattle.memory_histories.specs.declared.events.HistoryEvent.TheVariants.{LoadRequest, LoadResponse, StoreRequest, StoreResponse}
+pub use Rattle.memory_histories.specs.declared.events.TheConstants.{ALL_ENABLED}
 pub use Rattle.memory_histories.specs.declared.events.HistoryFault.{HistoryFault}
 pub use Rattle.memory_histories.specs.declared.events.HistoryFault.TheVariants.{OutOfRange, NoByteEnabled, NumberInUse, NotOpen}
 pub use Rattle.memory_histories.specs.declared.events.HistoryFault.TheVariants.{WrongLength, WrongByte}

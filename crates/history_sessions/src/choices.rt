@@ -6,10 +6,10 @@ ghost use Rattle.history_sessions.specs.Choices.{has_other, has_another, IsTold,
 ghost use Rattle.history_sessions.specs.History.{History};
 ghost use Rattle.history_sessions.specs.Kept.{IsOf};
 
-use crate::coverage::Coverage;
+use crate::coverage::{Coverage, WatchedOperation};
 use crate::faults::JudgeFault;
 use crate::judge::Judge;
-use memory_histories::{ByteSet, HistoryEvent};
+use memory_histories::{ByteSet, HistoryEvent, is_enabled};
 
 impl Judge {
     // Whether an event answers a load that is counted and had a choice.
@@ -23,18 +23,20 @@ impl Judge {
             return false;
         };
         match coverage.load_under(number) {
-            Some(load) => self.had_choice(number, load.address, bytes),
+            Some(load) => self.had_choice(number, load, bytes),
             None => false,
         }
     }
 
-    fn had_choice(&self, number: u64, address: u64, bytes: &[u8]) -> bool
+    fn had_choice(&self, number: u64, load: WatchedOperation, bytes: &[u8]) -> bool
         ensures { (h : History)
             → IsOf self.now h
-            → HadChoice self.now h number address bytes.now result }
+            → HadChoice self.now h number load.address load.bytes bytes.now result }
     {
         for (k, byte) in bytes.iter().enumerate() {
-            if self.has_another(number, address_at(address, k), *byte) {
+            if is_enabled(load.bytes, k as u64)
+                && self.has_another(number, address_at(load.address, k), *byte)
+            {
                 return true;
             }
         }

@@ -185,7 +185,8 @@ impl Coverage {
                 number,
                 address,
                 length,
-            } => self.request(watched(false, number, address, mask_of(length, u64::MAX))),
+                enables,
+            } => self.request(watched(false, number, address, mask_of(length, enables))),
             HistoryEvent::LoadResponse { number, bytes: _ } => {
                 self.answer(false, number, had_choice)
             }

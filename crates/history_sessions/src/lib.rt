@@ -21,5 +21,7 @@ pub use coverage::Counts;
 pub use faults::{ForgetFault, JudgeFault};
 pub use history_reasons::{FoundReason, OpenOperation, Reason, Source};
 pub use judge::{HistoryLaw, Judge, LawName};
-pub use memory_histories::{ByteSet, HistoryEvent, HistoryFault, MAX_LENGTH, Rest, StoreByte};
+pub use memory_histories::{
+    ALL_ENABLED, ByteSet, HistoryEvent, HistoryFault, MAX_LENGTH, Rest, StoreByte,
+};
 pub use session::HistorySession;

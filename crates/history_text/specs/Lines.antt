@@ -1,7 +1,7 @@
 -- The lines of a history.
 use Rattle.std.specs.Prelude.{ℕ, ◌==◌, Bool, false, ◌||◌, if◌then◌else◌, Option, None, Some, Result, Ok, Err, List, [], ◌∷◌, length, codes}
 use Rattle.std.specs.List.{list_all}
-use Rattle.history_sessions.specs.Words.{HistoryEvent, LoadRequest, LoadResponse, StoreRequest, StoreResponse}
+use Rattle.history_sessions.specs.Words.{HistoryEvent, ALL_ENABLED, LoadRequest, LoadResponse, StoreRequest, StoreResponse}
 use Rattle.trace_text.specs.Lines.{cut_of, same}
 use Rattle.history_sessions.specs.Events.{held}
 use Rattle.history_text.specs.Fields.{value_of, bytes_of, enables_of}
@@ -16,7 +16,7 @@ use Rattle.history_text.specs.declared.lines.Command.TheVariants as command
 
 -- the event that owns its bytes
 abbrev pub seen : OwnedEvent → HistoryEvent
-seen (owned.LoadRequest number address length) = LoadRequest number address length
+seen (owned.LoadRequest number address length) = LoadRequest number address length ALL_ENABLED
 seen (owned.LoadResponse number bytes) = LoadResponse number (held bytes.items)
 seen (owned.StoreRequest number address bytes enables) = StoreRequest number address (held bytes.items) enables
 seen (owned.StoreResponse number) = StoreResponse number
@@ -24,7 +24,7 @@ seen (owned.StoreResponse number) = StoreResponse number
 -- ---- what the fields behind a command make of it
 
 abbrev pub load_request_with : Option ℕ → Option ℕ → Option ℕ → Option HistoryEvent
-load_request_with (Some number) (Some address) (Some length) = Some (LoadRequest number address length)
+load_request_with (Some number) (Some address) (Some length) = Some (LoadRequest number address length ALL_ENABLED)
 load_request_with number address length = None
 
 abbrev pub load_request_behind : List ℕ → List ℕ × Option (List ℕ) → Option HistoryEvent

@@ -27,13 +27,13 @@ pub record Stands (m : HistorySession) (s : Session) : Type 0 where
   pub few : s.seen.moment < 18446744073709551616
 
 abbrev pub kind_of : HistoryEvent → OperationKind
-kind_of (LoadRequest number address n) = Load
+kind_of (LoadRequest number address n enables) = Load
 kind_of (LoadResponse number bytes) = Load
 kind_of (StoreRequest number address bytes enables) = Store
 kind_of (StoreResponse number) = Store
 
 abbrev pub number_of : HistoryEvent → ℕ
-number_of (LoadRequest number address n) = number
+number_of (LoadRequest number address n enables) = number
 number_of (LoadResponse number bytes) = number
 number_of (StoreRequest number address bytes enables) = number
 number_of (StoreResponse number) = number
@@ -77,7 +77,7 @@ IsResponseCause s (Some load) bytes f cause = IsAnswerCause s load bytes f cause
 
 -- the cause of the refusal of an event
 abbrev pub IsCause : Session → HistoryEvent → HistoryFault → RefusalCause → Type 0
-IsCause s (LoadRequest number address n) f cause = cause ≡ request_cause address n f
+IsCause s (LoadRequest number address n enables) f cause = cause ≡ request_cause address n f
 IsCause s (StoreRequest number address bytes enables) f cause = cause ≡ request_cause address (length bytes.now) f
 IsCause s (LoadResponse number bytes) f cause = IsResponseCause s (operation_under number s.loads) bytes.now f cause
 IsCause s (StoreResponse number) f cause = cause ≡ NotOpen

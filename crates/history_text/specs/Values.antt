@@ -64,7 +64,7 @@ AreSetsOf h (Some load) values =
 -- what the load that this event answers may have returned
 abbrev pub AreValues : Session → Option HistoryEvent → Option (List (Option ByteSet)) → Type 0
 AreValues s None values = values ≡ None
-AreValues s (Some (LoadRequest number address n)) values = values ≡ None
+AreValues s (Some (LoadRequest number address n enables)) values = values ≡ None
 AreValues s (Some (LoadResponse number bytes)) values = AreSetsOf s.history (operation_under number s.loads) values
 AreValues s (Some (StoreRequest number address bytes enables)) values = values ≡ None
 AreValues s (Some (StoreResponse number)) values = values ≡ None

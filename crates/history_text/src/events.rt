@@ -5,7 +5,7 @@ ghost use Rattle.history_sessions.specs.Events.{plain};
 ghost use Rattle.history_text.specs.Lines.{seen};
 
 use arrayvec::ArrayVec;
-use history_sessions::{HistoryEvent, MAX_LENGTH};
+use history_sessions::{ALL_ENABLED, HistoryEvent, MAX_LENGTH};
 
 /// An operation's bytes, in memory's order.
 pub type OperationBytes = ArrayVec<u8, MAX_LENGTH>;
@@ -52,6 +52,7 @@ impl OwnedEvent {
                 number: *number,
                 address: *address,
                 length: *length as usize,
+                enables: ALL_ENABLED,
             },
             OwnedEvent::LoadResponse { number, bytes } => HistoryEvent::LoadResponse {
                 number: *number,

@@ -46,7 +46,7 @@ step_text result =
 unfoldable pub history_text : ℕ → List ℕ
 history_text result =
     if result == 151 then codes "bad range: not 1 to 64 bytes, or not below 2^64" else
-    if result == 152 then codes "no byte enabled: a store that writes no byte" else
+    if result == 152 then codes "no byte enabled: a load or a store of no byte" else
     if result == 153 then codes "number in use: an operation is open under it" else
     if result == 154 then codes "not open: no operation is open under the number" else
     if result == 155 then codes "wrong length: the load asks for another" else

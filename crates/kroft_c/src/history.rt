@@ -38,7 +38,7 @@ pub extern "C" fn kroft_history_close(alloc: Global, handle: &mut HistoryHandle)
     history_handles::free_history(alloc, handle)
 }
 
-/// A load of `length` bytes from `address` on is requested under this number.
+/// A load is requested under this number, of the enabled ones of `length` bytes from `address` on.
 #[unsafe(no_mangle)]
 pub extern "C" fn kroft_history_load_request(
     alloc: Global,
@@ -46,15 +46,16 @@ pub extern "C" fn kroft_history_load_request(
     number: u64,
     address: u64,
     length: usize,
+    enables: u64,
 ) -> u32
     ensures told { (b : Option Session)
         → IsBehind handle.old b
-        → IsEventTold result handle.old handle.new b (LoadRequest number address length) }
+        → IsEventTold result handle.old handle.new b (LoadRequest number address length enables) }
     ensures coverage { (b : Option Session)
         → IsBehind handle.old b
-        → IsEventCounted result handle.old handle.new b (LoadRequest number address length) }
+        → IsEventCounted result handle.old handle.new b (LoadRequest number address length enables) }
 {
-    history_handles::load_request(alloc, handle, number, address, length)
+    history_handles::load_request(alloc, handle, number, address, length, enables)
 }
 
 /// The load that is open under this number is answered with these bytes.

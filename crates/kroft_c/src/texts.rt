@@ -112,7 +112,7 @@ fn history_text(number: u32) -> &'static [u8]
 {
     match number {
         151 => b"bad range: not 1 to 64 bytes, or not below 2^64",
-        152 => b"no byte enabled: a store that writes no byte",
+        152 => b"no byte enabled: a load or a store of no byte",
         153 => b"number in use: an operation is open under it",
         154 => b"not open: no operation is open under the number",
         155 => b"wrong length: the load asks for another",

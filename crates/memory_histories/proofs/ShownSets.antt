@@ -7,12 +7,10 @@ use Rattle.std.proofs.lemmas.List.{take_all, drop_all, get_or_past}
 use Rattle.std.proofs.Math.Seq.{take-append_seam, drop-append_seam}
 use Rattle.memory_histories.specs.declared.events.Rest.{Rest}
 use Rattle.memory_histories.specs.declared.windows.StoreByte.{StoreByte}
-use Rattle.memory_histories.specs.declared.windows.LoadByte.{LoadByte}
 use Rattle.memory_histories.specs.declared.parts.StorePart.{StorePart}
 use Rattle.memory_histories.specs.declared.sets.ByteSet.{ByteSet}
 use Rattle.memory_histories.specs.Sets.{no_bytes}
-use Rattle.memory_histories.specs.Windows.{load_bytes}
-use Rattle.memory_histories.specs.Kept.{with_stores, first_set_at, settled_set, opened_at}
+use Rattle.memory_histories.specs.Kept.{with_stores, first_set_at, settled_set, settled_at}
 use Rattle.memory_histories.specs.Parts.{part_bytes, lane_at, eight, parts_bytes, with_known}
 use Rattle.memory_histories.specs.Loads.{shown_sets, all_shown_sets, shown_lanes, is_near}
 use Rattle.memory_histories.proofs.Lanes.{lane_before}
@@ -98,29 +96,27 @@ abbrev pub from_unit : ℕ → ℕ → ℕ → ℕ
 from_unit a n u = min (max a (8 * u)) (a + n)
 
 module _ (image : List ℕ) (rest : Rest) (answered : ℕ → List StoreByte) where
-  -- the set of a byte if no store is open
-  abbrev pub set_of : LoadByte → ByteSet
-  set_of l = (opened_at image rest [] answered l).may
+  -- the sets of so many bytes if no store is open
+  abbrev pub sets_of : ℕ → ℕ → List ByteSet
+  sets_of a n = map (settled_at image rest answered) (range_with_len a n)
 
-  pub in_unit : (u k a n t : ℕ) → 8 * u ≤ a → a + n ≤ 8 * u + 8
-      → map set_of (load_bytes k a n t) ≡ map (settled_set image rest (answered u)) (range_with_len a n)
-  in_unit u k a zero t l h = refl
-  in_unit u k a (suc n) t l h = grind (arith, in_unit u k (a + 1) n t)
+  pub in_unit : (u a n : ℕ) → 8 * u ≤ a → a + n ≤ 8 * u + 8
+      → sets_of a n ≡ map (settled_set image rest (answered u)) (range_with_len a n)
+  in_unit u a zero l h = refl
+  in_unit u a (suc n) l h = grind (arith, in_unit u (a + 1) n)
 
-  split_sets : (k a n m t : ℕ)
-      → map set_of (load_bytes k a (n + m) t) ≡ map set_of (load_bytes k a n t) ++ map set_of (load_bytes k (a + n) m t)
-  split_sets k a zero m t = grind arith
-  split_sets k a (suc n) m t =
+  split_sets : (a n m : ℕ) → sets_of a (n + m) ≡ sets_of a n ++ sets_of (a + n) m
+  split_sets a zero m = grind arith
+  split_sets a (suc n) m =
       let e : a + suc n ≡ (a + 1) + n = omega arith in
       let z : suc n + m ≡ suc (n + m) = omega arith in
-      rw (e, z) (cc (split_sets k (a + 1) n m t))
+      rw (e, z) (cc (split_sets (a + 1) n m))
 
   -- one unit more
-  pub unit_more : (u k p n q e t : ℕ) (xs ys zs : List ByteSet) → 8 * u ≤ p → p + n ≤ 8 * u + 8 → q ≡ p + n → q ≤ e
+  pub unit_more : (u p n q e : ℕ) (xs ys zs : List ByteSet) → 8 * u ≤ p → p + n ≤ 8 * u + 8 → q ≡ p + n → q ≤ e
       → ys ≡ xs ++ map (settled_set image rest (answered u)) (range_with_len p n)
-      → xs ++ map set_of (load_bytes k p (e - p) t) ≡ zs → ys ++ map set_of (load_bytes k q (e - q) t) ≡ zs
-  unit_more u k p n q e t xs ys zs l m s within y h =
-      grind (arith, append_assoc, in_unit u k p n t, split_sets k p n (e - q) t)
+      → xs ++ sets_of p (e - p) ≡ zs → ys ++ sets_of q (e - q) ≡ zs
+  unit_more u p n q e xs ys zs l m s within y h = grind (arith, append_assoc, in_unit u p n, split_sets p n (e - q))
 
 -- Sets of no byte. ----
 

@@ -1,5 +1,5 @@
 -- What is kept of a history judges it as the law does.
-use Rattle.std.proofs.Common.{◌≡◌, ℕ, ◌+◌, Bool, not, List, map, Option, None, Some, Result, Ok, Err, get_or, refl, sym, arith}
+use Rattle.std.proofs.Common.{◌≡◌, ℕ, ◌+◌, Bool, ◌||◌, not, List, map, Option, None, Some, Result, Ok, Err, get_or, refl, sym, ap, arith}
 use Rattle.std.specs.Prelude.{OnOk, IfErr}
 use Rattle.std.specs.List.{All, filter, find, list_any}
 use Rattle.std.specs.Option.{option_map}
@@ -11,12 +11,14 @@ use Rattle.memory_histories.specs.declared.events.StepFault.{StepFault}
 use Rattle.memory_histories.specs.declared.events.Rest.{Rest}
 use Rattle.memory_histories.specs.declared.windows.StoreByte.{StoreByte}
 use Rattle.memory_histories.specs.declared.kept.OpenByte.{OpenByte}
-use Rattle.memory_histories.specs.Windows.{Windows, windows_after, stores_after, loads_after}
+use Rattle.memory_histories.specs.Windows.{Windows, load_byte, windows_after, stores_after, loads_after}
 use Rattle.memory_histories.specs.Windows as windows
-use Rattle.memory_histories.specs.Regular.{fault, may_return}
+use Rattle.memory_histories.specs.Regular.{fault, may_return, may_return_byte, is_allowed}
 use Rattle.memory_histories.specs.Kept.{Kept, opened_at, is_open_of, next_stores, next_answered, next_open, is_seen, is_unanswered}
-use Rattle.memory_histories.specs.Kept.{is_open_at, may_have, kept_fault, kept_after, kept_step, IsTimely, IsExact, StandsFor}
+use Rattle.memory_histories.specs.Kept.{is_open_at, may_have, shown_set, kept_fault, kept_after, kept_step, IsTimely, IsExact, StandsFor}
 use Rattle.memory_histories.specs.Kept as keeps
+use Rattle.memory_histories.specs.Sets.{has}
+use Rattle.memory_histories.proofs.ByteSets.{has-all_bytes}
 use Rattle.memory_histories.specs.Shown.{KeptFaultIs, StepFaultIs, IsSetOf}
 use Rattle.memory_histories.proofs.Lists.{list_any-map, filter-map, map-map, find-map, find-All, position-zip}
 use Rattle.memory_histories.proofs.Live.{list_any-open, filter-open, answered_seen, unanswered_after, left_answered, covered_answered}
@@ -24,13 +26,18 @@ use Rattle.memory_histories.proofs.Requests.{store_bytes-new, unanswered_request
 
 -- Faults. ----
 
+same_may : (w : Windows) (o : OpenByte) (b : ℕ) → has o.may b ≡ may_return_byte w.image w.rest w.stores o.load b
+    → may_have o b ≡ may_return w o.load b
+same_may w o b h = ap (λ x. not o.load.enabled || x) h
+
 pub fault_same : (k : Kept) (w : Windows) (event : HistoryEvent) → StandsFor k w → kept_fault k event ≡ fault w event
 fault_same k w (LoadResponse n bytes) s =
     rw (
       ← s.load_bytes,
       filter-map,
       ← position-zip (λ o. o.load) may_have (may_return w) (filter (is_open_of n) k.open_bytes) bytes.now
-          (λ i d l. (All-filter (is_open_of n) (IsExact w) k.open_bytes s.exact i d l).1),
+          (λ i d l b. same_may w (get_or (filter (is_open_of n) k.open_bytes) i d) b
+          ((All-filter (is_open_of n) (IsExact w) k.open_bytes s.exact i d l).1 b)),
       length-map,
     ) refl
 fault_same k w event s = grind (arith, list_any-map, list_any-open)
@@ -53,20 +60,20 @@ module _ (k : Kept) (w : Windows) (s : StandsFor k w) where
   seen_after event unit test = s.answered_stores unit test
 
   load_after : (event : HistoryEvent) → map (λ o. o.load) (next_open k event) ≡ loads_after w event
-  load_after (LoadRequest n a len) = rw (map-append, s.load_bytes, map-map, map-id, s.same_moment) refl
+  load_after (LoadRequest n a len e) = rw (map-append, s.load_bytes, map-map, map-id, s.same_moment) refl
   load_after (LoadResponse n bytes) = grind (arith, filter-map)
   load_after (StoreRequest n a bytes e) = rw map-map s.load_bytes
   load_after (StoreResponse n) = s.load_bytes
 
   exact_after : (event : HistoryEvent) → All (IsExact (windows_after w event)) (next_open k event)
-  exact_after (LoadRequest n a len) =
-      let later = windows_after w (LoadRequest n a len) in
+  exact_after (LoadRequest n a len e) =
+      let later = windows_after w (LoadRequest n a len e) in
       let f = opened_at k.image k.rest k.stores k.answered in
       All-append (IsExact later) k.open_bytes _ (λ i d l. grind (arith, s.exact i d))
       (All-map (IsExact later) f _ (All-map (λ l. IsExact later (f l)) _ _ (λ i d l. (
         grind arith,
         λ b. rw (s.same_image, s.same_rest, s.open_stores)
-            (opened_exact w.image w.rest w.moment w.stores _ s.timely (record { number = n; address = get_or _ i d; began = k.moment })
+            (opened_exact w.image w.rest w.moment w.stores _ s.timely (load_byte n a e k.moment (get_or _ i d))
             s.same_moment (s.answered_stores _) b),
       ))))
   exact_after (LoadResponse n bytes) =
@@ -115,10 +122,15 @@ pub refused_law : (r : Result (Unit {0}) StepFault) (k : Kept) (event : HistoryE
     → StandsFor k w → IfErr r (StepFaultIs w event)
 refused_law r k event h w s = grind (arith, fault_same)
 
+shown_allowed : (w : Windows) (o : OpenByte) (b : ℕ) → has o.may b ≡ may_return_byte w.image w.rest w.stores o.load b
+    → has (shown_set o) b ≡ is_allowed w o.load b
+shown_allowed w o b h = grind (arith, has-all_bytes)
+
 pub set_law : (k : Kept) (w : Windows) (n a : ℕ) → StandsFor k w
-    → IsSetOf w n a (option_map (λ o. o.may) (find (is_open_at n a) k.open_bytes))
+    → IsSetOf w n a (option_map shown_set (find (is_open_at n a) k.open_bytes))
 set_law k w n a s = go _ refl
   where
-    go : (o : Option OpenByte) → find (is_open_at n a) k.open_bytes ≡ o → IsSetOf w n a (option_map (λ x. x.may) o)
+    go : (o : Option OpenByte) → find (is_open_at n a) k.open_bytes ≡ o → IsSetOf w n a (option_map shown_set o)
     go None f = grind (arith, find-map, s.load_bytes)
-    go (Some o) f = (o.load, grind (arith, find-map, s.load_bytes), (find-All (IsExact w) _ k.open_bytes s.exact o f).1)
+    go (Some o) f = (o.load, grind (arith, find-map, s.load_bytes), λ b. shown_allowed w o b ((find-All
+        (IsExact w) _ k.open_bytes s.exact o f).1 b))

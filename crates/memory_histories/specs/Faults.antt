@@ -9,7 +9,7 @@ use Rattle.memory_histories.specs.declared.events.StepFault.TheVariants.{Refused
 -- why an event is none of a law
 abbrev pub history_fault_text : HistoryFault → List ℕ
 history_fault_text OutOfRange = codes "the operation is out of range"
-history_fault_text NoByteEnabled = codes "no byte of the store is enabled"
+history_fault_text NoByteEnabled = codes "no byte is enabled"
 history_fault_text NumberInUse = codes "the number is in use"
 history_fault_text NotOpen = codes "no operation is open under the number"
 history_fault_text WrongLength = codes "the load was requested with another length"

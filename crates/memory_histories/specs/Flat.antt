@@ -1,5 +1,6 @@
 -- The flat law: an operation takes effect at its request, so a load is owed the bytes that stand there then.
-use Rattle.std.specs.Prelude.{ℕ, ◌+◌, ◌/◌, ◌%◌, Bool, ◌&&◌, not, if◌then◌else◌, ◌==◌, nat_lt, List, [], ◌∷◌, ◌++◌, map, length, Option}
+use Rattle.std.specs.Int.{bit_at}
+use Rattle.std.specs.Prelude.{ℕ, ◌+◌, ◌-◌, ◌/◌, ◌%◌, Bool, ◌&&◌, not, if◌then◌else◌, ◌==◌, nat_lt, List, [], ◌∷◌, ◌++◌, map, length, Option}
 use Rattle.std.specs.Prelude.{Some, None, is_none, slice_get}
 use Rattle.std.specs.List.{filter, list_any, range_with_len}
 use Rattle.std.specs.Option.{option_and_then}
@@ -12,7 +13,7 @@ use Rattle.memory_histories.specs.declared.reasons.Owed.{Owed}
 use Rattle.memory_histories.specs.declared.reasons.StoreName.{StoreName}
 use Rattle.memory_histories.specs.declared.reasons.Owed.TheVariants as owed
 use Rattle.memory_histories.specs.declared.flat.OwedByte.{OwedByte}
-use Rattle.memory_histories.specs.Regular.{is_inside, has_enabled, load_request_fault, load_response_fault, store_request_fault}
+use Rattle.memory_histories.specs.Regular.{is_inside, has_enabled, enables_any, request_fault, load_response_fault}
 use Rattle.memory_histories.specs.Regular.{store_response_fault}
 
 -- what stands at each address, how many events there were, the numbers of the open stores, and what the open loads are owed
@@ -48,6 +49,10 @@ with_bytes at value address (b ∷ bs) enables =
 abbrev pub stored : (ℕ → Owed) → StoreName → ℕ → List ℕ → ℕ → (ℕ → Owed)
 stored memory store address bytes enables = with_bytes memory (λ b. owed.Stored b store) address bytes enables
 
+-- what a load from an address on asks for: of a byte that isn't enabled nothing is known
+abbrev pub asked : (ℕ → Owed) → ℕ → ℕ → (ℕ → Owed)
+asked memory address enables a = if bit_at enables (a - address) == 1 then memory a else owed.Unknown
+
 -- a load that is requested now is owed what stands there
 abbrev pub owed_bytes : (ℕ → Owed) → ℕ → ℕ → ℕ → List OwedByte
 owed_bytes memory number address n = map (λ a. record { number = number; address = a; owed = memory a }) (range_with_len address n)
@@ -72,10 +77,11 @@ is_open number n = n == number
 
 -- why the history with this event is none of the law
 abbrev pub flat_fault : Flat → HistoryEvent → Option HistoryFault
-flat_fault f (LoadRequest number address n) = load_request_fault (is_inside address n) (list_any (is_of number) f.loads)
+flat_fault f (LoadRequest number address n enables) =
+    request_fault (is_inside address n) (enables_any n enables) (list_any (is_of number) f.loads)
 flat_fault f (LoadResponse number bytes) = load_response_fault may_return (filter (is_of number) f.loads) bytes.now
 flat_fault f (StoreRequest number address bytes enables) =
-    store_request_fault (is_inside address (length bytes.now)) (has_enabled bytes.now enables) (list_any (is_open number) f.stores)
+    request_fault (is_inside address (length bytes.now)) (has_enabled bytes.now enables) (list_any (is_open number) f.stores)
 flat_fault f (StoreResponse number) = store_response_fault (list_any (is_open number) f.stores)
 
 -- what an event changes
@@ -90,7 +96,7 @@ stores_after f (StoreResponse number) = filter (λ n. not (is_open number n)) f.
 stores_after f event = f.stores
 
 abbrev pub loads_after : Flat → HistoryEvent → List OwedByte
-loads_after f (LoadRequest number address n) = f.loads ++ owed_bytes f.memory number address n
+loads_after f (LoadRequest number address n enables) = f.loads ++ owed_bytes (asked f.memory address enables) number address n
 loads_after f (LoadResponse number bytes) = filter (λ l. not (is_of number l)) f.loads
 loads_after f event = f.loads
 

@@ -1,6 +1,7 @@
 -- What the judge keeps of a history: the bytes of the open stores, those of answered stores that a load may still see, and of
 -- each byte of an open load what it may return if it is answered now.
-use Rattle.std.specs.Prelude.{ℕ, ◌≡◌, ◌+◌, ◌/◌, ◌<◌, Bool, ◌&&◌, not, if◌then◌else◌, ◌==◌, List, [], ◌++◌, map, Option, Some, None, is_none}
+use Rattle.std.specs.Prelude.{ℕ, ◌≡◌, ◌+◌, ◌/◌, ◌<◌, Bool, true, false, ◌&&◌, ◌||◌, not, if◌then◌else◌, ◌==◌, List, [], ◌++◌, map}
+use Rattle.std.specs.Prelude.{Option, Some, None, is_none}
 use Rattle.std.specs.Prelude.{is_some, slice_get, length}
 use Rattle.std.specs.List.{All, filter, list_any, fold}
 use Rattle.memory_histories.specs.declared.events.HistoryEvent.{HistoryEvent}
@@ -14,7 +15,7 @@ use Rattle.memory_histories.specs.declared.sets.ByteSet.{ByteSet}
 use Rattle.memory_histories.specs.declared.kept.OpenByte.{OpenByte}
 use Rattle.memory_histories.specs.Sets.{has, with_byte, no_bytes, all_bytes}
 use Rattle.memory_histories.specs.Windows.{Windows, store_bytes, load_bytes, is_open, is_of, is_at}
-use Rattle.memory_histories.specs.Regular.{is_before, is_inside, has_enabled, load_request_fault, load_response_fault, store_request_fault}
+use Rattle.memory_histories.specs.Regular.{is_before, is_inside, has_enabled, enables_any, request_fault, load_response_fault}
 use Rattle.memory_histories.specs.Regular.{store_response_fault, may_return_byte}
 
 -- `stores` are the bytes of the open stores. `answered` gives those of answered stores by unit, that is by eight aligned
@@ -71,6 +72,10 @@ abbrev pub settled_set : List ℕ → Rest → List StoreByte → ℕ → ByteSe
 settled_set image rest answered address = with_stores answered address
     (first_set (is_covered_by answered address) (initial_set (slice_get image address) rest))
 
+-- the same where these are those of each unit
+abbrev pub settled_at : List ℕ → Rest → (ℕ → List StoreByte) → ℕ → ByteSet
+settled_at image rest answered address = settled_set image rest (answered (unit_of address)) address
+
 -- a byte of a load that is requested now, where these are the open stores and those that were answered
 abbrev pub opened : List ℕ → Rest → List StoreByte → List StoreByte → LoadByte → OpenByte
 opened image rest stores answered l = record {
@@ -112,8 +117,8 @@ next_answered k (StoreResponse number) = λ unit. answered_after k.moment (filte
 next_answered k event = k.answered
 
 abbrev pub next_open : Kept → HistoryEvent → List OpenByte
-next_open k (LoadRequest number address n) = k.open_bytes ++ map (opened_at k.image k.rest k.stores k.answered)
-    (load_bytes number address n k.moment)
+next_open k (LoadRequest number address n enables) = k.open_bytes ++ map (opened_at k.image k.rest k.stores k.answered)
+    (load_bytes number address n enables k.moment)
 next_open k (LoadResponse number bytes) = filter (λ o. not (is_open_of number o)) k.open_bytes
 next_open k (StoreRequest number address bytes enables) =
     map (after_stores (store_bytes number address bytes.now enables k.moment)) k.open_bytes
@@ -130,12 +135,21 @@ kept_after k event = record {
 }
 
 abbrev pub may_have : OpenByte → ℕ → Bool
-may_have o b = has o.may b
+may_have o b = not o.load.enabled || has o.may b
+
+-- the set that is shown of it: what is answered of a byte that isn't enabled may be anything
+abbrev pub enabled_set : Bool → ByteSet → ByteSet
+enabled_set true s = s
+enabled_set false s = all_bytes
+
+abbrev pub shown_set : OpenByte → ByteSet
+shown_set o = enabled_set o.load.enabled o.may
 
 abbrev pub kept_fault : Kept → HistoryEvent → Option HistoryFault
-kept_fault k (LoadRequest number address n) = load_request_fault (is_inside address n) (list_any (is_open_of number) k.open_bytes)
+kept_fault k (LoadRequest number address n enables) =
+    request_fault (is_inside address n) (enables_any n enables) (list_any (is_open_of number) k.open_bytes)
 kept_fault k (LoadResponse number bytes) = load_response_fault may_have (filter (is_open_of number) k.open_bytes) bytes.now
-kept_fault k (StoreRequest number address bytes enables) = store_request_fault (is_inside address (length bytes.now))
+kept_fault k (StoreRequest number address bytes enables) = request_fault (is_inside address (length bytes.now))
     (has_enabled bytes.now enables) (list_any (is_open number) k.stores)
 kept_fault k (StoreResponse number) = store_response_fault (list_any (is_open number) k.stores)
 
@@ -168,7 +182,7 @@ EndsBefore moment began (Some e) = (began < e) × (e < moment)
 abbrev pub IsTimely : ℕ → StoreByte → Type 0
 IsTimely moment s = (s.began < moment) × EndsBefore moment s.began s.ended
 
--- the set of an open byte is what the law lets it return
+-- the set of an open byte is what the law lets it return, if it is enabled
 abbrev pub IsExact : Windows → OpenByte → Type 0
 IsExact w o = (o.load.began < w.moment) × ((b : ℕ) → has o.may b ≡ may_return_byte w.image w.rest w.stores o.load b)
 

@@ -8,18 +8,21 @@ use Rattle.memory_histories.specs.declared.parts.StorePart.{StorePart}
 use Rattle.memory_histories.specs.declared.sets.ByteSet.{ByteSet}
 use Rattle.memory_histories.specs.declared.events.HistoryFault.{HistoryFault}
 use Rattle.memory_histories.specs.declared.events.HistoryFault.TheVariants.{NotOpen, WrongLength}
-use Rattle.memory_histories.specs.Sets.{has}
+use Rattle.memory_histories.specs.declared.windows.LoadByte.{LoadByte}
+use Rattle.memory_histories.specs.Windows.{load_byte}
+use Rattle.memory_histories.specs.Kept.{may_have, enabled_set}
+use Rattle.std.specs.Int.{bit_at}
+use Rattle.std.specs.Option.{option_map}
 use Rattle.memory_histories.specs.Regular.{wrong_place, wrong_byte}
 use Rattle.memory_histories.specs.Parts.{part_at, with_known}
 
--- the bytes of a load from an address on, which may return these
-abbrev pub set_bytes : ℕ → ℕ → ℕ → List ByteSet → List OpenByte
-set_bytes number address began [] = []
-set_bytes number address began (s ∷ ss) =
-    (record { load = record { number = number; address = address; began = began }; may = s }) ∷ set_bytes number (address + 1) began ss
+-- the bytes of a load from an address on, of which these are the sets
+abbrev pub set_bytes : (ℕ → LoadByte) → ℕ → List ByteSet → List OpenByte
+set_bytes byte address [] = []
+set_bytes byte address (s ∷ ss) = (record { load = byte address; may = s }) ∷ set_bytes byte (address + 1) ss
 
 abbrev pub load_open : OpenLoad → List OpenByte
-load_open o = set_bytes o.number o.address o.began o.sets.items
+load_open o = set_bytes (load_byte o.number o.address o.enables o.began) o.address o.sets.items
 
 abbrev pub loads_open : List OpenLoad → List OpenByte
 loads_open [] = []
@@ -56,7 +59,8 @@ shown_lanes (l ∷ ls) (s ∷ ss) = with_known s l ∷ shown_lanes ls ss
 -- the set of an open load's byte at an address
 abbrev pub set_at : ℕ → ℕ → OpenLoad → Option ByteSet
 set_at number address o =
-    if is_load_of number o && nat_le o.address address then slice_get o.sets.items (address - o.address) else None
+    if is_load_of number o && nat_le o.address address
+    then option_map (enabled_set (bit_at o.enables (address - o.address) == 1)) (slice_get o.sets.items (address - o.address)) else None
 
 abbrev pub or_next : Option ByteSet → Option ByteSet → Option ByteSet
 or_next (Some s) next = Some s
@@ -72,7 +76,7 @@ is_near address length p = nat_lt (8 * p.unit) (address + length) && nat_lt addr
 
 -- the first of these bytes that a load may not return, and the bytes behind its own, if it is open under a number
 abbrev pub wrong_in : ℕ → OpenLoad → List ℕ → Option ℕ
-wrong_in number o bytes = if is_load_of number o then wrong_place has o.sets.items bytes else None
+wrong_in number o bytes = if is_load_of number o then wrong_place may_have (load_open o) bytes else None
 
 abbrev pub behind : ℕ → OpenLoad → List ℕ → List ℕ
 behind number o bytes = if is_load_of number o then drop (min (length o.sets.items) (length bytes)) bytes else bytes

@@ -1,6 +1,6 @@
 -- The regular law: which byte a load may return, each byte for itself.
 use Rattle.std.specs.Prelude.{ℕ, ◌≡◌, ◌+◌, ◌/◌, ◌%◌, ◌<◌, ◌⊎◌, Bool, true, false, ◌&&◌, ◌||◌, not, if◌then◌else◌, ◌==◌, nat_lt, nat_le}
-use Rattle.std.specs.Prelude.{List, [], ◌∷◌, length, Option, Some, None, is_none, slice_get}
+use Rattle.std.specs.Prelude.{zero, suc, List, [], ◌∷◌, length, Option, Some, None, is_none, slice_get}
 use Rattle.std.specs.List.{Any, filter, list_any, zip, position}
 use Rattle.std.specs.Option.{option_and_then}
 use Rattle.memory_histories.specs.declared.events.HistoryEvent.{HistoryEvent}
@@ -44,7 +44,7 @@ abbrev pub IsInitial : Option ℕ → Rest → ℕ → Type 0
 IsInitial None rest b = IsBeyond rest b
 IsInitial (Some i) rest b = i ≡ b
 
--- a load may return this byte if it is answered now
+-- a load may return this byte if it is answered now, and asks for it
 abbrev pub MayReturn : List ℕ → Rest → List StoreByte → LoadByte → ℕ → Type 0
 MayReturn image rest stores l b = IsLeft stores l b ⊎ (IsInitial (slice_get image l.address) rest b × ¬ (IsCovered stores l))
 
@@ -75,12 +75,17 @@ is_left stores l b = list_any (λ s. (s.address == l.address) && ((s.byte == b) 
 abbrev pub is_covered : List StoreByte → LoadByte → Bool
 is_covered stores l = list_any (λ s. (s.address == l.address) && is_before s.ended l.began) stores
 
--- whether a load may return this byte if it is answered now
+-- whether a load may return this byte if it is answered now, and asks for it
 abbrev pub may_return_byte : List ℕ → Rest → List StoreByte → LoadByte → ℕ → Bool
 may_return_byte image rest stores l b = is_left stores l b || (is_initial (slice_get image l.address) rest b && not (is_covered stores l))
 
+-- and what is answered of a byte that isn't enabled may be anything
 abbrev pub may_return : Windows → LoadByte → ℕ → Bool
-may_return w l b = may_return_byte w.image w.rest w.stores l b
+may_return w l b = not l.enabled || may_return_byte w.image w.rest w.stores l b
+
+-- whether a byte is in the set of what a load may return, which then has all 256
+abbrev pub is_allowed : Windows → LoadByte → ℕ → Bool
+is_allowed w l b = if l.enabled then may_return_byte w.image w.rest w.stores l b else nat_lt b 256
 
 -- Faults. ----
 
@@ -93,17 +98,17 @@ abbrev pub has_enabled : List ℕ → ℕ → Bool
 has_enabled [] enables = false
 has_enabled (b ∷ bs) enables = (enables % 2 == 1) || has_enabled bs (enables / 2)
 
--- of the faults of an event, the first in the order of its own list
-abbrev pub load_request_fault : Bool → Bool → Option HistoryFault
-load_request_fault false used = Some OutOfRange
-load_request_fault true true = Some NumberInUse
-load_request_fault true false = None
+-- whether one of so many bytes is
+abbrev pub enables_any : ℕ → ℕ → Bool
+enables_any zero enables = false
+enables_any (suc n) enables = (enables % 2 == 1) || enables_any n (enables / 2)
 
-abbrev pub store_request_fault : Bool → Bool → Bool → Option HistoryFault
-store_request_fault false any used = Some OutOfRange
-store_request_fault true false used = Some NoByteEnabled
-store_request_fault true true true = Some NumberInUse
-store_request_fault true true false = None
+-- of the faults of an event, the first in the order of its own list
+abbrev pub request_fault : Bool → Bool → Bool → Option HistoryFault
+request_fault false any used = Some OutOfRange
+request_fault true false used = Some NoByteEnabled
+request_fault true true true = Some NumberInUse
+request_fault true true false = None
 
 abbrev pub store_response_fault : Bool → Option HistoryFault
 store_response_fault true = None
@@ -125,10 +130,11 @@ load_response_fault may loads bytes =
 
 -- why the history with this event is none of the law
 abbrev pub fault : Windows → HistoryEvent → Option HistoryFault
-fault w (LoadRequest number address n) = load_request_fault (is_inside address n) (list_any (is_of number) w.loads)
+fault w (LoadRequest number address n enables) =
+    request_fault (is_inside address n) (enables_any n enables) (list_any (is_of number) w.loads)
 fault w (LoadResponse number bytes) = load_response_fault (may_return w) (filter (is_of number) w.loads) bytes.now
 fault w (StoreRequest number address bytes enables) =
-    store_request_fault (is_inside address (length bytes.now)) (has_enabled bytes.now enables) (list_any (is_open number) w.stores)
+    request_fault (is_inside address (length bytes.now)) (has_enabled bytes.now enables) (list_any (is_open number) w.stores)
 fault w (StoreResponse number) = store_response_fault (list_any (is_open number) w.stores)
 
 -- one event, where it is one of the law

@@ -15,7 +15,7 @@ use Rattle.memory_histories.specs.declared.answered.UnitChange.{UnitChange}
 use Rattle.memory_histories.specs.declared.regular.RegularMemory.{RegularMemory}
 use Rattle.memory_histories.specs.Sets.{has}
 use Rattle.memory_histories.specs.Windows.{Windows, is_at}
-use Rattle.memory_histories.specs.Regular.{fault, may_return}
+use Rattle.memory_histories.specs.Regular.{fault, is_allowed}
 use Rattle.memory_histories.specs.Kept.{Kept, kept_fault, answered_after}
 use Rattle.memory_histories.specs.Parts.{parts_bytes}
 use Rattle.memory_histories.specs.Loads.{loads_open}
@@ -80,4 +80,4 @@ StepFaultIs w event OutOfMemory = fault w event ≡ None
 abbrev pub IsSetOf : Windows → ℕ → ℕ → Option ByteSet → Type 0
 IsSetOf w number address None = find (is_at number address) w.loads ≡ None
 IsSetOf w number address (Some set) = (l : LoadByte) × (find (is_at number address) w.loads ≡ Some l) ×
-    ((b : ℕ) → has set b ≡ may_return w l b)
+    ((b : ℕ) → has set b ≡ is_allowed w l b)

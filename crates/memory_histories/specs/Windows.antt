@@ -1,5 +1,7 @@
 -- What a history adds up to: each byte that was stored, and each byte of an open load, with the window of its operation.
-use Rattle.std.specs.Prelude.{ℕ, ◌+◌, ◌/◌, ◌%◌, Bool, ◌&&◌, if◌then◌else◌, ◌==◌, List, [], ◌∷◌, ◌++◌, map, length, Some, None, is_none, not}
+use Rattle.std.specs.Int.{bit_at}
+use Rattle.std.specs.Prelude.{ℕ, ◌+◌, ◌-◌, ◌/◌, ◌%◌, Bool, ◌&&◌, if◌then◌else◌, ◌==◌, List, [], ◌∷◌, ◌++◌, map, length, Some, None}
+use Rattle.std.specs.Prelude.{is_none, not}
 use Rattle.std.specs.List.{filter, range_with_len}
 use Rattle.memory_histories.specs.declared.events.HistoryEvent.{HistoryEvent}
 use Rattle.memory_histories.specs.declared.events.HistoryEvent.TheVariants.{LoadRequest, LoadResponse, StoreRequest, StoreResponse}
@@ -30,9 +32,13 @@ store_bytes number address (b ∷ bs) enables moment =
     cons_if (enables % 2 == 1) (record { number = number; address = address; byte = b; began = moment; ended = None })
     (store_bytes number (address + 1) bs (enables / 2) moment)
 
--- the bytes of a load that is requested at this moment
-abbrev pub load_bytes : ℕ → ℕ → ℕ → ℕ → List LoadByte
-load_bytes number address length moment = map (λ a. record { number = number; address = a; began = moment }) (range_with_len address length)
+-- the bytes of a load that is requested at this moment: bit k of `enables` is the enable of byte k
+abbrev pub load_byte : ℕ → ℕ → ℕ → ℕ → ℕ → LoadByte
+load_byte number first enables moment a =
+    record { number = number; address = a; began = moment; enabled = bit_at enables (a - first) == 1 }
+
+abbrev pub load_bytes : ℕ → ℕ → ℕ → ℕ → ℕ → List LoadByte
+load_bytes number address length enables moment = map (load_byte number address enables moment) (range_with_len address length)
 
 -- whether a byte's store is open, under this number
 abbrev pub is_open : ℕ → StoreByte → Bool
@@ -58,7 +64,7 @@ stores_after w (StoreResponse number) = map (after_response number w.moment) w.s
 stores_after w event = w.stores
 
 abbrev pub loads_after : Windows → HistoryEvent → List LoadByte
-loads_after w (LoadRequest number address length) = w.loads ++ load_bytes number address length w.moment
+loads_after w (LoadRequest number address length enables) = w.loads ++ load_bytes number address length enables w.moment
 loads_after w (LoadResponse number bytes) = filter (λ l. not (is_of number l)) w.loads
 loads_after w event = w.loads
 

@@ -7,6 +7,9 @@ use thiserror::Error;
 /// The most bytes of one operation.
 pub const MAX_LENGTH: usize = 64;
 
+/// The enables of a load or a store of which each byte is enabled.
+pub const ALL_ENABLED: u64 = u64::MAX;
+
 /// What is seen of an operation: that it was requested, or that it was answered.
 ///
 /// An address is that of a byte. An operation has 1 to 64 bytes, in the order of memory, and none of
@@ -14,19 +17,22 @@ pub const MAX_LENGTH: usize = 64;
 /// stores are numbered apart.
 #[derive(Clone, Copy, Debug)]
 pub enum HistoryEvent<'a> {
-    /// A load of `length` bytes from `address` on is requested.
+    /// A load of `length` bytes from `address` on is requested. Bit `k` of `enables` is the enable of
+    /// byte `k`; bits beyond the last byte have no meaning. What is answered of a byte that isn't
+    /// enabled isn't judged.
     LoadRequest {
         number: u64,
         address: u64,
         length: usize,
+        enables: u64,
     },
     /// The load is answered with these bytes.
     LoadResponse {
         number: u64,
         bytes: &'a [u8],
     },
-    /// A store is requested: of these bytes from `address` on, those whose enable is set. Bit `k` of
-    /// `enables` is the enable of byte `k`; bits beyond the last byte have no meaning.
+    /// A store is requested: of these bytes from `address` on, those whose enable is set, as a
+    /// load's.
     StoreRequest {
         number: u64,
         address: u64,
@@ -45,7 +51,7 @@ pub enum HistoryEvent<'a> {
 pub enum HistoryFault {
     /// The operation has no byte or more than 64, or runs beyond the last address.
     OutOfRange,
-    /// No byte of the store is enabled.
+    /// No byte is enabled.
     NoByteEnabled,
     /// An operation of this kind is open under the number.
     NumberInUse,

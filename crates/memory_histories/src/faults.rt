@@ -17,7 +17,7 @@ impl fmt::Display for FaultText<'_, HistoryFault> {
     fn fmt<W: fmt::Write>(&self, f: &mut fmt::Formatter<W>) -> fmt::Result {
         match self.0 {
             HistoryFault::OutOfRange => f.write_str("the operation is out of range"),
-            HistoryFault::NoByteEnabled => f.write_str("no byte of the store is enabled"),
+            HistoryFault::NoByteEnabled => f.write_str("no byte is enabled"),
             HistoryFault::NumberInUse => f.write_str("the number is in use"),
             HistoryFault::NotOpen => f.write_str("no operation is open under the number"),
             HistoryFault::WrongLength => f.write_str("the load was requested with another length"),

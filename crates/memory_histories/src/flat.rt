@@ -1,18 +1,19 @@
 //! The judge of the flat law.
 
-ghost use Rattle.std.specs.Prelude.{◌≡◌, ◌+◌, ◌<◌, ◌≤◌, ◌^◌, ◌++◌, [], ◌∷◌, true, length, None, Some, not, IfOk, IfErr, OnOk, OnErr};
+ghost use Rattle.std.specs.Prelude.{◌≡◌, ◌+◌, ◌<◌, ◌≤◌, ◌^◌, ◌++◌, [], ◌∷◌, true, length, if◌then◌else◌, None, Some, not, IfOk, IfErr};
+ghost use Rattle.std.specs.Prelude.{OnOk, OnErr};
 ghost use Rattle.std.specs.Prelude.{vec_len, vec_capacity, nat_eq};
 ghost use Rattle.std.specs.List.{filter, find, list_any};
 ghost use Rattle.std.specs.HashMap.{get, spare};
 ghost use Rattle.std.specs.Option.{option_map};
 ghost use Rattle.memory_histories.specs.Regular.{is_inside, load_response_fault, wrong_place};
-ghost use Rattle.memory_histories.specs.Flat.{opening, initial, is_of, is_at, is_open, is_paid_by, may_return, owed_bytes, stored};
+ghost use Rattle.memory_histories.specs.Flat.{opening, initial, is_of, is_at, is_open, is_paid_by, may_return, asked, owed_bytes, stored};
 ghost use Rattle.memory_histories.specs.Flat.{with_value, with_bytes, flat_fault, flat_step, flat_after};
 ghost use Rattle.memory_histories.specs.FlatShown.{shown, standing, owed_set, FlatFaultIs, IsOwedSet};
 
 use crate::events::{HistoryEvent, HistoryFault, MAX_LENGTH, Rest, StepFault};
 use crate::forms::{
-    has_enabled, is_inside, load_request_fault, store_request_fault, store_response_fault,
+    enables_any, has_enabled, is_enabled, is_inside, request_fault, store_response_fault,
 };
 use crate::reasons::{Owed, StoreName};
 use crate::regular::wrong_byte;
@@ -27,7 +28,7 @@ pub struct OwedByte {
     pub number: u64,
     /// The byte's address.
     pub address: u64,
-    /// What stood there at the load's request.
+    /// What stood there at the load's request. Nothing is known of a byte that isn't enabled.
     pub owed: Owed,
 }
 
@@ -74,14 +75,19 @@ impl FlatHistory {
                 number,
                 address,
                 length,
-            } => load_request_fault(is_inside(address, length), self.has_open_load(number)),
+                enables,
+            } => request_fault(
+                is_inside(address, length),
+                enables_any(length, enables),
+                self.has_open_load(number),
+            ),
             HistoryEvent::LoadResponse { number, bytes } => self.load_response_fault(number, bytes),
             HistoryEvent::StoreRequest {
                 number,
                 address,
                 bytes,
                 enables,
-            } => store_request_fault(
+            } => request_fault(
                 is_inside(address, bytes.len()),
                 has_enabled(bytes, enables),
                 self.has_open_store(number),
@@ -170,7 +176,8 @@ impl FlatHistory {
                 number,
                 address,
                 length,
-            } => self.request_load(number, address, length)?,
+                enables,
+            } => self.request_load(number, address, length, enables)?,
             HistoryEvent::LoadResponse { number, bytes: _ } => end_load(&mut self.loads, number),
             HistoryEvent::StoreRequest {
                 number,
@@ -184,19 +191,26 @@ impl FlatHistory {
         Ok(())
     }
 
-    fn request_load(&mut self, number: u64, address: u64, length: usize) -> Result<(), AllocError>
+    fn request_load(
+        &mut self,
+        number: u64,
+        address: u64,
+        length: usize,
+        enables: u64,
+    ) -> Result<(), AllocError>
         requires { is_inside address length ≡ true }
         ensures ok { OnOk result
             (shown self.new
             ≡ record (shown self.old) {
               loads =
-                  (shown self.old).loads ++ owed_bytes (shown self.old).memory number address length;
+                  (shown self.old).loads
+                  ++ owed_bytes (asked (shown self.old).memory address enables) number address length;
             }) }
         ensures err { OnErr result (shown self.new ≡ shown self.old) }
     {
         self.loads.reserve(length)?;
         let memory = (self.image.as_slice(), self.rest, &self.written);
-        add_load(&mut self.loads, memory, number, address, length);
+        add_load(&mut self.loads, memory, number, address, length, enables);
         Ok(())
     }
 
@@ -318,18 +332,36 @@ fn initial(first: Option<u8>, rest: Rest) -> Owed
     }
 }
 
+// What a load asks for there: of a byte that isn't enabled nothing is known.
+fn asked(
+    image: &[u8],
+    rest: Rest,
+    written: &HashMap<u64, Owed>,
+    address: u64,
+    enabled: bool,
+) -> Owed
+    ensures { result ≡ (if enabled then standing image.now rest (get nat_eq written.now) address else Owed.Unknown) }
+{
+    if enabled {
+        standing(image, rest, written, address)
+    } else {
+        Owed::Unknown
+    }
+}
+
 fn add_load(
     loads: &mut Vec<OwedByte>,
     memory: (&[u8], Rest, &HashMap<u64, Owed>),
     number: u64,
     address: u64,
     length: usize,
+    enables: u64,
 )
     requires room { vec_len loads.old + length ≤ vec_capacity loads.old }
     requires inside { address + length ≤ 2 ^ 64 }
     ensures { loads.new.items
         ≡ loads.old.items
-        ++ owed_bytes (standing memory.entry.0.now memory.entry.1 (get nat_eq memory.entry.2.now)) number
+        ++ owed_bytes (asked (standing memory.entry.0.now memory.entry.1 (get nat_eq memory.entry.2.now)) address enables) number
         address length }
 {
     let (image, rest, written) = memory;
@@ -338,7 +370,7 @@ fn add_load(
         loads.push_reserved(OwedByte {
             number,
             address,
-            owed: standing(image, rest, written, address),
+            owed: asked(image, rest, written, address, is_enabled(enables, k as u64)),
         });
     }
 }

@@ -1,7 +1,8 @@
 //! Which events are malformed, whatever law a history is judged by.
 
-ghost use Rattle.std.specs.Prelude.{◌≡◌, length};
-ghost use Rattle.memory_histories.specs.Regular.{is_inside, has_enabled, load_request_fault, store_request_fault, store_response_fault};
+ghost use Rattle.std.specs.Prelude.{◌≡◌, ◌==◌, length};
+ghost use Rattle.std.specs.Int.{bit_at};
+ghost use Rattle.memory_histories.specs.Regular.{is_inside, has_enabled, enables_any, request_fault, store_response_fault};
 
 use crate::events::{HistoryFault, MAX_LENGTH};
 
@@ -27,23 +28,32 @@ pub fn has_enabled(bytes: &[u8], enables: u64) -> bool
     false
 }
 
-/// Why a load's request is malformed: the first in the order of [`HistoryFault`]. `inside`:
-/// [`is_inside`]. `used`: a load is open under its number.
-pub fn load_request_fault(inside: bool, used: bool) -> Option<HistoryFault>
-    ensures { result ≡ load_request_fault inside used }
+/// The same of so many bytes.
+#[tactic(auto, using(crate::proofs::Loops::enables_any_more))]
+pub fn enables_any(length: usize, enables: u64) -> bool
+    ensures { result ≡ enables_any length enables }
 {
-    if !inside {
-        Some(HistoryFault::OutOfRange)
-    } else if used {
-        Some(HistoryFault::NumberInUse)
-    } else {
-        None
+    let mut left = enables;
+    for _k in 0..length {
+        if left % 2 == 1 {
+            return true;
+        }
+        left /= 2;
     }
+    false
 }
 
-/// The same of a store's request. `any`: [`has_enabled`].
-pub fn store_request_fault(inside: bool, any: bool, used: bool) -> Option<HistoryFault>
-    ensures { result ≡ store_request_fault inside any used }
+/// Whether the byte at this place, counted from 0, is enabled.
+pub fn is_enabled(enables: u64, place: u64) -> bool
+    ensures { result ≡ (bit_at enables place == 1) }
+{
+    place < 64 && (enables >> place) % 2 == 1
+}
+
+/// Why a request is malformed: the first in the order of [`HistoryFault`]. `inside`: [`is_inside`].
+/// `any`: a byte is enabled. `used`: an operation of its kind is open under its number.
+pub fn request_fault(inside: bool, any: bool, used: bool) -> Option<HistoryFault>
+    ensures { result ≡ request_fault inside any used }
 {
     if !inside {
         Some(HistoryFault::OutOfRange)
@@ -56,7 +66,7 @@ pub fn store_request_fault(inside: bool, any: bool, used: bool) -> Option<Histor
     }
 }
 
-/// The same of a store's response: no store is open under its number.
+/// Why a store's response is malformed: no store is open under its number.
 pub fn store_response_fault(used: bool) -> Option<HistoryFault>
     ensures { result ≡ store_response_fault used }
 {

@@ -6,7 +6,7 @@ ghost use Rattle.std.specs.HashMap.{get};
 ghost use Rattle.std.specs.List.{filter, list_any, position, range_with_len};
 ghost use Rattle.memory_histories.specs.Sets.{no_bytes};
 ghost use Rattle.memory_histories.specs.Windows.{store_bytes, load_bytes, is_open};
-ghost use Rattle.memory_histories.specs.Kept.{initial_set, is_covered_by, first_set_at, settled_set, opened_at, after_stores};
+ghost use Rattle.memory_histories.specs.Kept.{initial_set, is_covered_by, first_set_at, settled_set, settled_at, opened_at, after_stores};
 ghost use Rattle.memory_histories.specs.Parts.{part_at, written, part_bytes, parts_bytes, is_open_part, IsOnly};
 ghost use Rattle.memory_histories.specs.Loads.{load_open, loads_open};
 ghost use Rattle.memory_histories.specs.Shown.{answered_in};
@@ -27,7 +27,7 @@ use std::collections::HashMap;
 pub struct OpenByte {
     /// The byte.
     pub load: LoadByte,
-    /// What it may return.
+    /// What it may return, if it is enabled.
     pub may: ByteSet,
 }
 
@@ -238,25 +238,22 @@ fn add_piece(
 fn add_sets(
     sets: &mut Vec<ByteSet>,
     memory: (&[u8], Rest, &HashMap<u64, KeptUnit>),
-    number: u64,
     address: u64,
     length: usize,
-    moment: u64,
 )
     requires room { vec_len sets.old + length ≤ vec_capacity sets.old }
     requires some { 1 ≤ length }
     requires inside { address + length ≤ 2 ^ 64 }
     ensures { sets.new.items ≡ sets.old.items
-        ++ map
-        (λ l. (opened_at memory.entry.0.now memory.entry.1 [] (answered_in (get nat_eq memory.entry.2.now))
-        l).may) (load_bytes number address length moment) }
+        ++ map (settled_at memory.entry.0.now memory.entry.1 (answered_in (get nat_eq memory.entry.2.now)))
+        (range_with_len address length) }
 {
     let (image, rest, units) = memory;
     if address % 8 + length as u64 <= 8 {
         let answered = parts_in(units, unit_of(address));
         add_piece(sets, (image, rest), answered, address, length);
     } else {
-        add_pieces(sets, memory, number, address, length, moment);
+        add_pieces(sets, memory, address, length);
     }
 }
 
@@ -264,18 +261,15 @@ fn add_sets(
 fn add_pieces(
     sets: &mut Vec<ByteSet>,
     memory: (&[u8], Rest, &HashMap<u64, KeptUnit>),
-    number: u64,
     address: u64,
     length: usize,
-    moment: u64,
 )
     requires room { vec_len sets.old + length ≤ vec_capacity sets.old }
     requires some { 1 ≤ length }
     requires inside { address + length ≤ 2 ^ 64 }
     ensures { sets.new.items ≡ sets.old.items
-        ++ map
-        (λ l. (opened_at memory.entry.0.now memory.entry.1 [] (answered_in (get nat_eq memory.entry.2.now))
-        l).may) (load_bytes number address length moment) }
+        ++ map (settled_at memory.entry.0.now memory.entry.1 (answered_in (get nat_eq memory.entry.2.now)))
+        (range_with_len address length) }
 {
     let (image, rest, units) = memory;
     let first = unit_of(address);
@@ -295,6 +289,7 @@ fn settled_load(
     number: u64,
     address: u64,
     length: usize,
+    enables: u64,
     moment: u64,
 ) -> OpenLoad
     requires empty { sets.items ≡ [] }
@@ -303,14 +298,15 @@ fn settled_load(
     requires inside { address + length ≤ 2 ^ 64 }
     ensures { load_open result
         ≡ map (opened_at memory.entry.0.now memory.entry.1 [] (answered_in (get nat_eq memory.entry.2.now)))
-        (load_bytes number address length moment) }
+        (load_bytes number address length enables moment) }
 {
     let mut sets = sets;
-    add_sets(&mut sets, memory, number, address, length, moment);
+    add_sets(&mut sets, memory, address, length);
     OpenLoad {
         number,
         address,
         began: moment,
+        enables,
         sets,
     }
 }
@@ -322,6 +318,7 @@ pub(crate) fn open_load(
     number: u64,
     address: u64,
     length: usize,
+    enables: u64,
     moment: u64,
 ) -> OpenLoad
     requires empty { room.items ≡ [] }
@@ -331,10 +328,18 @@ pub(crate) fn open_load(
     ensures { load_open result
         ≡ map (opened_at memory.entry.0.now memory.entry.1 (parts_bytes memory.entry.2.now)
         (answered_in (get nat_eq memory.entry.3.now)))
-        (load_bytes number address length moment) }
+        (load_bytes number address length enables moment) }
 {
     let (image, rest, stores, units) = memory;
-    let mut load = settled_load(room, (image, rest, units), number, address, length, moment);
+    let mut load = settled_load(
+        room,
+        (image, rest, units),
+        number,
+        address,
+        length,
+        enables,
+        moment,
+    );
     show_parts(&mut load, stores);
     load
 }

@@ -24,11 +24,11 @@ mod spares;
 mod windows;
 
 pub use answered::{KeptUnit, UnitChange};
-pub use events::{HistoryEvent, HistoryFault, MAX_LENGTH, Rest, StepFault};
+pub use events::{ALL_ENABLED, HistoryEvent, HistoryFault, MAX_LENGTH, Rest, StepFault};
 pub use faults::FaultText;
 pub use flat::{FlatHistory, OwedByte};
 pub use forms::{
-    has_enabled, is_inside, load_request_fault, store_request_fault, store_response_fault,
+    enables_any, has_enabled, is_enabled, is_inside, request_fault, store_response_fault,
 };
 pub use kept::OpenByte;
 pub use loads::OpenLoad;

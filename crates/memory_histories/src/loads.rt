@@ -3,14 +3,14 @@
 ghost use Rattle.std.specs.Prelude.{◌≡◌, ◌≤◌, ◌<◌, ◌&&◌, ◌++◌, true, IfSome, not, length, map, take, drop, nat_lt};
 ghost use Rattle.std.specs.List.{filter, find, fold, list_any, position};
 ghost use Rattle.std.specs.Option.{option_map};
-ghost use Rattle.memory_histories.specs.Sets.{has};
 ghost use Rattle.memory_histories.specs.Regular.{wrong_place, load_response_fault};
-ghost use Rattle.memory_histories.specs.Kept.{after_stores, is_open_of, is_open_at, may_have};
+ghost use Rattle.memory_histories.specs.Kept.{after_stores, is_open_of, is_open_at, may_have, enabled_set, shown_set};
 ghost use Rattle.memory_histories.specs.Parts.{part_bytes, parts_bytes, with_known};
 ghost use Rattle.memory_histories.specs.Loads.{load_open, loads_open, is_load_of, IsOnlyLoad, counted, shown_sets, all_shown_sets};
 ghost use Rattle.memory_histories.specs.Loads.{shown_lanes, is_near, response_fault, wrong_in, behind, set_at, first_set_at};
 
 use crate::events::HistoryFault;
+use crate::forms::is_enabled;
 use crate::parts::{StorePart, lanes_from, unit_of};
 use crate::regular::wrong_byte;
 use crate::sets::ByteSet;
@@ -22,6 +22,7 @@ pub struct OpenLoad {
     pub(crate) number: u64,
     pub(crate) address: u64,
     pub(crate) began: u64,
+    pub(crate) enables: u64,
     pub(crate) sets: Vec<ByteSet>,
 }
 
@@ -98,11 +99,10 @@ pub(crate) fn only_load(loads: &[OpenLoad], number: u64) -> Option<usize>
 fn one_response_fault(load: &OpenLoad, bytes: &[u8]) -> Option<HistoryFault>
     ensures { result ≡ load_response_fault may_have (load_open load.now) bytes.now }
 {
-    let sets = load.sets.as_slice();
     response_fault(
-        sets.len() as u128,
+        load.sets.len() as u128,
         bytes.len() as u128,
-        first_wrong(sets, bytes),
+        first_wrong(load, bytes),
     )
 }
 
@@ -135,12 +135,18 @@ fn any_response_fault(loads: &[OpenLoad], number: u64, bytes: &[u8]) -> Option<H
     )
 }
 
-fn first_wrong(sets: &[ByteSet], bytes: &[u8]) -> Option<usize>
-    ensures { result ≡ wrong_place has sets.now bytes.now }
+// The first byte that a load may not return.
+#[tactic(auto, using(crate::proofs::Opened::wrong_first, crate::proofs::Opened::wrong_more, crate::proofs::Opened::wrong_end))]
+fn first_wrong(load: &OpenLoad, bytes: &[u8]) -> Option<usize>
+    ensures { result ≡ wrong_place may_have (load_open load.now) bytes.now }
 {
-    sets.iter()
-        .zip(bytes.iter())
-        .position(|(set, byte)| !set.holds(*byte))
+    let sets = load.sets.as_slice();
+    for k in 0..sets.len().min(bytes.len()) {
+        if !sets[k].holds(bytes[k]) && is_enabled(load.enables, k as u64) {
+            return Some(k);
+        }
+    }
+    None
 }
 
 // The first byte that the load may not return, if it is open under this number.
@@ -149,7 +155,7 @@ fn wrong_in(load: &OpenLoad, number: u64, bytes: &[u8]) -> Option<usize>
     ensures bound { IfSome result (λ place. place < length bytes.now) }
 {
     if is_load_of(load, number) {
-        first_wrong(load.sets.as_slice(), bytes)
+        first_wrong(load, bytes)
     } else {
         None
     }
@@ -300,18 +306,29 @@ pub(crate) fn show_part(loads: &mut [OpenLoad], part: &StorePart)
     }
 }
 
+// The set of a byte, which has all 256 if it isn't enabled.
+fn enabled_set(enabled: bool, set: ByteSet) -> ByteSet
+    ensures { result ≡ enabled_set enabled set }
+{
+    if enabled { set } else { ByteSet::all() }
+}
+
 fn set_at(load: &OpenLoad, number: u64, address: u64) -> Option<ByteSet>
     ensures { result ≡ set_at number address load.now }
 {
     if is_load_of(load, number) && load.address <= address {
-        load.sets.get((address - load.address) as usize).copied()
+        let place = address - load.address;
+        match load.sets.get(place as usize) {
+            Some(set) => Some(enabled_set(is_enabled(load.enables, place), *set)),
+            None => None,
+        }
     } else {
         None
     }
 }
 
 pub(crate) fn open_set(loads: &[OpenLoad], number: u64, address: u64) -> Option<ByteSet>
-    ensures { result ≡ option_map (λ o. o.may) (find (is_open_at number address) (loads_open loads.now)) }
+    ensures { result ≡ option_map shown_set (find (is_open_at number address) (loads_open loads.now)) }
 {
     first_set_at(loads, number, address)
 }

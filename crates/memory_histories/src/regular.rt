@@ -7,6 +7,7 @@ ghost use Rattle.memory_histories.specs.declared.events.HistoryEvent.TheVariants
 ghost use Rattle.memory_histories.specs.Windows.{Windows, opening, is_open, store_bytes, load_bytes, windows_after};
 ghost use Rattle.memory_histories.specs.Regular.{fault, is_inside, wrong_byte};
 ghost use Rattle.memory_histories.specs.Kept.{opened_at, after_stores, answered_after, kept_fault, kept_step, is_open_of, is_open_at};
+ghost use Rattle.memory_histories.specs.Kept.{shown_set};
 ghost use Rattle.memory_histories.specs.Kept.{StandsFor};
 ghost use Rattle.memory_histories.specs.Shown.{kept, FaultIs, KeptFaultIs, StepFaultIs, IsSetOf};
 ghost use Rattle.memory_histories.specs.Parts.{IsOnly};
@@ -14,9 +15,7 @@ ghost use Rattle.memory_histories.specs.Loads.{IsOnlyLoad};
 
 use crate::answered::{KeptUnit, answer_part, changes, put_changes};
 use crate::events::{HistoryEvent, HistoryFault, MAX_LENGTH, Rest, StepFault};
-use crate::forms::{
-    has_enabled, is_inside, load_request_fault, store_request_fault, store_response_fault,
-};
+use crate::forms::{enables_any, has_enabled, is_inside, request_fault, store_response_fault};
 use crate::kept::{add_store, end_store, has_open_at, only_part, open_load, open_store};
 use crate::loads::{OpenLoad, end_load, has_open_load, load_response_fault, only_load, open_set};
 use crate::parts::{MAX_PARTS, StorePart, has_open};
@@ -96,7 +95,8 @@ impl RegularMemory {
                 number,
                 address,
                 length,
-            } => self.load_request_fault(number, address, length),
+                enables,
+            } => self.load_request_fault(number, address, length, enables),
             HistoryEvent::LoadResponse { number, bytes } => {
                 self.load_response_fault(number, self.place_of_load(number), bytes)
             }
@@ -125,10 +125,20 @@ impl RegularMemory {
         only_part(self.stores.as_slice(), number)
     }
 
-    fn load_request_fault(&self, number: u64, address: u64, length: usize) -> Option<HistoryFault>
-        ensures { result ≡ kept_fault (kept self.now) (LoadRequest number address length) }
+    fn load_request_fault(
+        &self,
+        number: u64,
+        address: u64,
+        length: usize,
+        enables: u64,
+    ) -> Option<HistoryFault>
+        ensures { result ≡ kept_fault (kept self.now) (LoadRequest number address length enables) }
     {
-        load_request_fault(is_inside(address, length), self.has_open_load(number))
+        request_fault(
+            is_inside(address, length),
+            enables_any(length, enables),
+            self.has_open_load(number),
+        )
     }
 
     fn store_request_fault(
@@ -140,7 +150,7 @@ impl RegularMemory {
     ) -> Option<HistoryFault>
         ensures { result ≡ kept_fault (kept self.now) (StoreRequest number address bytes.entry enables) }
     {
-        store_request_fault(
+        request_fault(
             is_inside(address, bytes.len()),
             has_enabled(bytes, enables),
             self.has_open_store(number),
@@ -190,7 +200,7 @@ impl RegularMemory {
     }
 
     fn kept_set(&self, number: u64, address: u64) -> Option<ByteSet>
-        ensures { result ≡ option_map (λ o. o.may) (find (is_open_at number address) (kept self.now).open_bytes) }
+        ensures { result ≡ option_map shown_set (find (is_open_at number address) (kept self.now).open_bytes) }
     {
         open_set(self.loads.as_slice(), number, address)
     }
@@ -207,7 +217,8 @@ impl RegularMemory {
                 number,
                 address,
                 length,
-            } => self.take_load_request(number, address, length),
+                enables,
+            } => self.take_load_request(number, address, length, enables),
             HistoryEvent::LoadResponse { number, bytes } => self.take_load_response(number, bytes),
             HistoryEvent::StoreRequest {
                 number,
@@ -226,13 +237,14 @@ impl RegularMemory {
         number: u64,
         address: u64,
         length: usize,
+        enables: u64,
     ) -> Result<(), StepFault>
-        ensures ok { OnOk result (kept_step (kept self.old) (LoadRequest number address length) ≡ Some (kept self.new)) }
-        ensures fault { IfErr result (KeptFaultIs (kept self.old) (LoadRequest number address length)) }
+        ensures ok { OnOk result (kept_step (kept self.old) (LoadRequest number address length enables) ≡ Some (kept self.new)) }
+        ensures fault { IfErr result (KeptFaultIs (kept self.old) (LoadRequest number address length enables)) }
         ensures unchanged { OnErr result (kept self.new ≡ kept self.old) }
     {
-        self.refuse(self.load_request_fault(number, address, length))?;
-        self.request_load(number, address, length)?;
+        self.refuse(self.load_request_fault(number, address, length, enables))?;
+        self.request_load(number, address, length, enables)?;
         self.moment += 1;
         Ok(())
     }
@@ -299,7 +311,13 @@ impl RegularMemory {
         Ok(())
     }
 
-    fn request_load(&mut self, number: u64, address: u64, length: usize) -> Result<(), AllocError>
+    fn request_load(
+        &mut self,
+        number: u64,
+        address: u64,
+        length: usize,
+        enables: u64,
+    ) -> Result<(), AllocError>
         requires { is_inside address length ≡ true }
         ensures ok { OnOk result
             (kept self.new
@@ -308,7 +326,7 @@ impl RegularMemory {
                   (kept self.old).open_bytes
                   ++ map (opened_at (kept self.old).image (kept self.old).rest (kept self.old).stores
                   (kept self.old).answered)
-                  (load_bytes number address length (kept self.old).moment);
+                  (load_bytes number address length enables (kept self.old).moment);
             }) }
         ensures err { OnErr result (kept self.new ≡ kept self.old) }
     {
@@ -321,7 +339,7 @@ impl RegularMemory {
             self.stores.as_slice(),
             &self.units,
         );
-        let load = open_load(sets, memory, number, address, length, self.moment);
+        let load = open_load(sets, memory, number, address, length, enables, self.moment);
         self.loads.push_reserved(load);
         Ok(())
     }

@@ -33,6 +33,8 @@ pub struct LoadByte {
     pub address: u64,
     /// The event that requested it, counted from 0.
     pub began: u64,
+    /// Whether it is enabled. If not, what is answered of it may be anything.
+    pub enabled: bool,
 }
 
 /// Whether memory may have had this byte before the first store.
@@ -148,8 +150,8 @@ pub(crate) fn may_return_byte(
         || (is_initial(image, rest, load.address, byte) && !is_covered(stores, load))
 }
 
-/// Whether a load may return this byte now, by the law as it is read aloud, over the image and the
-/// bytes of all stores.
+/// Whether a load may return this byte now if it is enabled, by the law as it is read aloud, over the
+/// image and the bytes of all stores.
 ///
 /// So it is if hidden moments explain the byte: one for each answered store and for the load, each
 /// within its window.

@@ -2,7 +2,8 @@
 //! the first store.
 
 use memory_histories::{
-    FlatHistory, HistoryEvent, HistoryFault, Owed, RegularMemory, Rest, StepFault, StoreName,
+    ALL_ENABLED, FlatHistory, HistoryEvent, HistoryFault, Owed, RegularMemory, Rest, StepFault,
+    StoreName,
 };
 use std::process::Abort;
 use std::test::Fail;
@@ -15,6 +16,7 @@ fn load(number: u64, length: usize) -> HistoryEvent<'static> {
         number,
         address: PLACE,
         length,
+        enables: ALL_ENABLED,
     }
 }
 
@@ -157,6 +159,7 @@ fn faults_in_order(rt: HostRuntime) -> Result<(), Fail> {
         number: 2,
         address: u64::MAX,
         length: 1,
+        enables: ALL_ENABLED,
     };
     takes(
         &rt,
@@ -172,6 +175,7 @@ fn before_the_first_store(rt: HostRuntime) -> Result<(), Fail> {
         number: 1,
         address: 0,
         length: 2,
+        enables: ALL_ENABLED,
     };
     for (rest, second) in [
         (Rest::Zeros, Some(HistoryFault::WrongByte { place: 1 })),
@@ -288,6 +292,7 @@ fn flat_memory_before_the_first_store(rt: HostRuntime) -> Result<(), Fail> {
         number: 1,
         address: 0,
         length: 2,
+        enables: ALL_ENABLED,
     };
     let rows = [
         (Rest::Zeros, Some(HistoryFault::WrongByte { place: 1 })),

@@ -1,7 +1,7 @@
 use Rattle.std.proofs.Common.{◌≡◌, drop}
-use Rattle.atomic_histories.specs.Words.{is_word_of}
+use Rattle.atomic_histories.specs.Words.{is_first_word}
 use Rattle.atomic_histories.proofs.words.is_first_word.Given as goal
 
 -- what is left says what the whole does
 abbrev pub invariant-loop-k : goal.invariant-loop-k
-invariant-loop-k l = is_word_of l.k (drop l.k l.word) 0 l.bytes ≡ is_word_of 0 l.word 0 l.bytes
+invariant-loop-k l = is_first_word (drop l.k l.word) l.bytes l.k ≡ is_first_word l.word l.bytes 0

@@ -8,6 +8,6 @@ pub returns-then-address-length-le8 : goal.returns-then-address-length-le8
 returns-then-address-length-le8 c =
     grind (
       arith,
-      in_unit c.args.memory.0.now c.args.memory.1 (answered_in (get nat_eq c.args.memory.2.now)) c.unit_of.result c.args.number
-          c.args.address c.args.length c.args.moment,
+      in_unit c.args.memory.0.now c.args.memory.1 (answered_in (get nat_eq c.args.memory.2.now)) c.unit_of.result
+          c.args.address c.args.length,
     )
