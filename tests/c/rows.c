@@ -243,6 +243,21 @@ static void operations(void) {
     CHECK(kroft_history_close(&history) == KROFT_OK);
 }
 
+/* Three loads: one that may be answered in two ways, one beside a store of the byte that is there, and one that overtakes another. */
+static void counted(void) {
+    kroft_history history = KROFT_NO_HISTORY;
+    kroft_history_counts counts;
+    const uint8_t old[1] = {0}, later[1] = {84};
+    CHECK(kroft_history_open(&history, KROFT_REGULAR_LAW, 1, KROFT_ZEROS, old, 1) == KROFT_OK && kroft_history_cover(&history) == KROFT_OK);
+    CHECK(kroft_history_load_request(&history, 1, 16, 1) == KROFT_OK && kroft_history_store_request(&history, 1, 16, later, 1, 1) == KROFT_OK);
+    CHECK(kroft_history_load_request(&history, 2, 32, 1) == KROFT_OK && kroft_history_store_request(&history, 2, 32, old, 1, 1) == KROFT_OK);
+    CHECK(kroft_history_load_request(&history, 3, 48, 1) == KROFT_OK && kroft_history_load_request(&history, 4, 48, 1) == KROFT_OK);
+    CHECK(kroft_history_load_response(&history, 1, old, 1) == KROFT_OK && kroft_history_load_response(&history, 2, old, 1) == KROFT_OK);
+    CHECK(kroft_history_load_response(&history, 4, old, 1) == KROFT_OK && kroft_history_coverage(&history, &counts) == KROFT_OK);
+    CHECK(counts.loads == 3 && counts.choices == 1 && counts.beside_store == 2 && counts.overtaking == 1);
+    CHECK(kroft_history_close(&history) == KROFT_OK);
+}
+
 int main(void) {
     first_four();
     shapes();
@@ -252,5 +267,6 @@ int main(void) {
     pumped();
     judged();
     operations();
+    counted();
     return checks_end("rows");
 }

@@ -11,5 +11,6 @@ pub mod Kept
 -- what is counted of it
 pub mod Coverage
 pub mod Choices
+pub mod Examples
 -- for those above
 pub mod Words
