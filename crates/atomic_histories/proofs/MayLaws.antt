@@ -338,7 +338,12 @@ module _ (lost : List ℕ) (image : List ℕ) (rest : Rest) (size : ℕ) (histor
       × (k ≡ at / size → (skips (Some o) at || may_show (lane_of (at % size) w) b) ≡ true)
 
   lost_one : (at b k : ℕ) → is_lost k lost ≡ true → Choice at b k
-  lost_one at b k t = ([], no_lanes _, λ f. cc (sym t ∙ f), λ e. ap (λ y. skips (Some o) at || may_show y b) (no_lane (at % size)) ∙ or-true (skips (Some o) at))
+  lost_one at b k t = (
+    [],
+    no_lanes _,
+    λ f. cc (sym t ∙ f),
+    λ e. ap (λ y. skips (Some o) at || may_show y b) (no_lane (at % size)) ∙ or-true (skips (Some o) at),
+  )
 
   choose : (at b : ℕ) → MayReturn lost image rest size history number at b → (k : ℕ) → Choice at b k
   choose at b may k = elim (cases_eq k (at / size)) [

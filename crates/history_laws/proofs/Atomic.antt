@@ -22,6 +22,7 @@ use Rattle.memory_histories.specs.Kept.{Kept, kept_after, IsTimely, StandsFor}
 use Rattle.memory_histories.proofs.Stands.{stands_first, stands_after}
 use Rattle.atomic_histories.specs.declared.unit.UnitPlace.{UnitPlace}
 use Rattle.atomic_histories.specs.declared.unit.LoadAddress.{LoadAddress}
+use Rattle.atomic_histories.specs.declared.unit.Operation.{Operation}
 use Rattle.atomic_histories.specs.Words.{at_unit, initial_byte, stored_byte, reads_from, read_byte, is_at, is_as_it_stood}
 use Rattle.atomic_histories.specs.Operations.{Opened, none_opened, opened_after, opened_by, form_fault}
 use Rattle.atomic_histories.specs.Law.{OpenLoad, UnitMemory, HiddenStep, MayBe, starts, steps, sees, untouched, is_load, is_got}
