@@ -2,6 +2,7 @@
 use Rattle.std.specs.Prelude.{ℕ, ◌≡◌, List, [], ◌∷◌, false}
 use Rattle.std.proofs.Common.{refl}
 use Rattle.memory_histories.specs.declared.events.HistoryEvent.{HistoryEvent}
+use Rattle.memory_histories.specs.declared.events.TheConstants.{ALL_ENABLED}
 use Rattle.memory_histories.specs.declared.events.HistoryEvent.TheVariants.{LoadRequest, LoadResponse, StoreRequest, StoreResponse}
 use Rattle.history_sessions.specs.declared.coverage.Counts.{Counts}
 use Rattle.history_sessions.specs.Coverage.{Covered, nothing_covered, covered_after}
@@ -17,13 +18,13 @@ counts_of events = (covered_by nothing_covered events).counts
 
 -- a load of 16 to 19, a store to 18 and 19 that enables 19 alone, and a load of 17 and 18
 abbrev load : HistoryEvent
-load = LoadRequest 1 16 4
+load = LoadRequest 1 16 4 ALL_ENABLED
 
 abbrev store : HistoryEvent
 store = StoreRequest 1 18 (held (7 ∷ 8 ∷ [])) 2
 
 abbrev other_load : HistoryEvent
-other_load = LoadRequest 2 17 2
+other_load = LoadRequest 2 17 2 ALL_ENABLED
 
 abbrev load_answer : ℕ → HistoryEvent
 load_answer number = LoadResponse number (held [])

@@ -10,7 +10,8 @@ ghost use Rattle.kroft_command.specs.Tool.{AreInOrder, AreSwept, AreRows, HasUni
 
 use crate::commands::{Subcommand, program, shown};
 use crate::given::{
-    format_of, latency_at, latency_count, registers_at, scale_of, text_of, verdict_format_of,
+    format_of, latency_at, latency_count, registers_at, scale_of, subcommand_of, text_of,
+    verdict_format_of,
 };
 use crate::options::{
     BESIDE, BUSY, FILE, LATENCY, MACHINE, REGISTERS, SHEET, SHRINK, SVG, TIMELINE,
@@ -627,14 +628,6 @@ fn task_of(subcommand: Subcommand, rest: &ArgMatches<'_>) -> Task
         Subcommand::Requests => requests_task(rest),
         Subcommand::Show => show_task(rest),
         Subcommand::History => history_task(rest),
-    }
-}
-
-// Words with no command were refused, so `run` stands for none.
-fn subcommand_of(matches: &ArgMatches<'_>) -> Subcommand {
-    match matches.subcommand_name() {
-        Some(name) => Subcommand::of(name).unwrap_or(Subcommand::Run),
-        None => Subcommand::Run,
     }
 }
 

@@ -1,5 +1,6 @@
 //! Options as what they say. Clap has refused the other words.
 
+use crate::commands::Subcommand;
 use crate::options::{LATENCY, LOG, REGISTERS};
 use clap::ArgMatches;
 use kroft_jobs::RequestText;
@@ -66,5 +67,13 @@ pub(crate) fn text_of(rest: &ArgMatches<'_>) -> RequestText {
         Some("lackey") => RequestText::Lackey,
         Some("din") => RequestText::Din,
         _ => RequestText::Trace,
+    }
+}
+
+// Words with no command were refused, so `run` stands for none.
+pub(crate) fn subcommand_of(matches: &ArgMatches<'_>) -> Subcommand {
+    match matches.subcommand_name() {
+        Some(name) => Subcommand::of(name).unwrap_or(Subcommand::Run),
+        None => Subcommand::Run,
     }
 }

@@ -132,5 +132,9 @@ set_law k w n a s = go _ refl
   where
     go : (o : Option OpenByte) → find (is_open_at n a) k.open_bytes ≡ o → IsSetOf w n a (option_map shown_set o)
     go None f = grind (arith, find-map, s.load_bytes)
-    go (Some o) f = (o.load, grind (arith, find-map, s.load_bytes), λ b. shown_allowed w o b ((find-All
-        (IsExact w) _ k.open_bytes s.exact o f).1 b))
+    go (Some o) f = (
+      o.load,
+      grind (arith, find-map, s.load_bytes),
+      λ b. shown_allowed w o b ((find-All
+          (IsExact w) _ k.open_bytes s.exact o f).1 b),
+    )
