@@ -232,22 +232,25 @@ static void coverage(uint32_t law, uint32_t unit, uint64_t choices) {
     CHECK(kroft_history_cover(&h) == KROFT_FAIL_CLOSED && kroft_history_coverage(&h, &n) == KROFT_FAIL_CLOSED && n.loads == 5);
     CHECK(kroft_history_open(&h, law, unit, KROFT_ZEROS, NULL, 0) == KROFT_OK);
     CHECK(kroft_history_coverage(&h, &n) == KROFT_ABSENT && n.overtaking == 8);
-    CHECK(kroft_history_load_request(&h, 1, 16, 4) == KROFT_OK && kroft_history_cover(&h) == KROFT_OK && has_counted(&h, 0, 0, 0, 0));
+    CHECK(kroft_history_load_request(&h, 1, 16, 4, UINT64_MAX) == KROFT_OK && kroft_history_cover(&h) == KROFT_OK && has_counted(&h, 0, 0, 0, 0));
     CHECK(kroft_history_load_response(&h, 1, zeros, 4) == KROFT_OK && has_counted(&h, 0, 0, 0, 0));
-    CHECK(kroft_history_load_request(&h, 1, 16, 4) == KROFT_OK && kroft_history_store_request(&h, 1, 18, stored, 2, 2) == KROFT_OK);
-    CHECK(kroft_history_load_request(&h, 2, 17, 2) == KROFT_OK && has_counted(&h, 0, 0, 0, 0));
+    CHECK(kroft_history_load_request(&h, 1, 16, 4, UINT64_MAX) == KROFT_OK && kroft_history_store_request(&h, 1, 18, stored, 2, 2) == KROFT_OK);
+    CHECK(kroft_history_load_request(&h, 2, 17, 2, UINT64_MAX) == KROFT_OK && has_counted(&h, 0, 0, 0, 0));
     CHECK(kroft_history_load_response(&h, 2, zeros, 2) == KROFT_OK && has_counted(&h, 1, 0, 0, 1)); /* it overtakes load 1 */
     CHECK(kroft_history_load_response(&h, 1, stored, 2) == KROFT_FAIL_WRONG_LENGTH && has_counted(&h, 1, 0, 0, 1));
     CHECK(kroft_history_load_response(&h, 1, zeros, 4) == KROFT_OK && has_counted(&h, 2, choices, 1, 1));
-    CHECK(kroft_history_load_request(&h, 1, 16, 4) == KROFT_OK && kroft_history_store_response(&h, 1) == KROFT_OK);
+    CHECK(kroft_history_load_request(&h, 1, 16, 4, UINT64_MAX) == KROFT_OK && kroft_history_store_response(&h, 1) == KROFT_OK);
     CHECK(kroft_history_load_response(&h, 1, after, 4) == KROFT_OK && has_counted(&h, 3, 2 * choices, 2, 1));
-    CHECK(kroft_history_load_request(&h, 1, 16, 4) == KROFT_OK && kroft_history_load_response(&h, 1, zeros, 4) == KROFT_FAIL_WRONG_BYTE);
+    CHECK(kroft_history_load_request(&h, 1, 16, 4, UINT64_MAX) == KROFT_OK && kroft_history_load_response(&h, 1, zeros, 4) == KROFT_FAIL_WRONG_BYTE);
     CHECK(has_counted(&h, 3, 2 * choices, 2, 1) && kroft_history_load_response(&h, 1, after, 4) == KROFT_OK && has_counted(&h, 4, 2 * choices, 2, 1));
     CHECK(kroft_history_store_request(&h, 1, 16, zeros, 1, 1) == KROFT_OK && kroft_history_store_request(&h, 2, 17, zeros, 1, 1) == KROFT_OK);
     CHECK(kroft_history_store_response(&h, 2) == KROFT_OK && has_counted(&h, 4, 2 * choices, 2, 1)); /* no byte in common */
     CHECK(kroft_history_store_request(&h, 2, 0, stored, 2, 3) == KROFT_OK && kroft_history_store_request(&h, 3, 1, stored, 1, 1) == KROFT_OK);
     CHECK(kroft_history_store_response(&h, 3) == KROFT_OK && has_counted(&h, 4, 2 * choices, 2, 2));
     CHECK(kroft_history_cover(&h) == KROFT_OK && has_counted(&h, 0, 0, 0, 0));
+    CHECK(kroft_history_load_request(&h, 5, 40, 2, 1) == KROFT_OK && kroft_history_store_request(&h, 5, 41, stored, 1, 1) == KROFT_OK);
+    CHECK(kroft_history_load_response(&h, 5, stored, 2) == KROFT_FAIL_WRONG_BYTE); /* byte 40 is 00 */
+    CHECK(kroft_history_load_response(&h, 5, zeros, 2) == KROFT_OK && has_counted(&h, 1, 0, 0, 0)); /* it doesn't enable the store's byte */
     CHECK(kroft_history_close(&h) == KROFT_OK);
 }
 

@@ -249,9 +249,9 @@ static void counted(void) {
     kroft_history_counts counts;
     const uint8_t old[1] = {0}, later[1] = {84};
     CHECK(kroft_history_open(&history, KROFT_REGULAR_LAW, 1, KROFT_ZEROS, old, 1) == KROFT_OK && kroft_history_cover(&history) == KROFT_OK);
-    CHECK(kroft_history_load_request(&history, 1, 16, 1) == KROFT_OK && kroft_history_store_request(&history, 1, 16, later, 1, 1) == KROFT_OK);
-    CHECK(kroft_history_load_request(&history, 2, 32, 1) == KROFT_OK && kroft_history_store_request(&history, 2, 32, old, 1, 1) == KROFT_OK);
-    CHECK(kroft_history_load_request(&history, 3, 48, 1) == KROFT_OK && kroft_history_load_request(&history, 4, 48, 1) == KROFT_OK);
+    CHECK(kroft_history_load_request(&history, 1, 16, 1, UINT64_MAX) == KROFT_OK && kroft_history_store_request(&history, 1, 16, later, 1, 1) == KROFT_OK);
+    CHECK(kroft_history_load_request(&history, 2, 32, 1, UINT64_MAX) == KROFT_OK && kroft_history_store_request(&history, 2, 32, old, 1, 1) == KROFT_OK);
+    CHECK(kroft_history_load_request(&history, 3, 48, 1, UINT64_MAX) == KROFT_OK && kroft_history_load_request(&history, 4, 48, 1, UINT64_MAX) == KROFT_OK);
     CHECK(kroft_history_load_response(&history, 1, old, 1) == KROFT_OK && kroft_history_load_response(&history, 2, old, 1) == KROFT_OK);
     CHECK(kroft_history_load_response(&history, 4, old, 1) == KROFT_OK && kroft_history_coverage(&history, &counts) == KROFT_OK);
     CHECK(counts.loads == 3 && counts.choices == 1 && counts.beside_store == 2 && counts.overtaking == 1);
