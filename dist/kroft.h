@@ -83,7 +83,7 @@ extern "C" {
     row(FAIL_NO_ANSWER, 148, "no answer: its row says nothing")                                     \
     /* events of a history */                                                                       \
     row(FAIL_BAD_RANGE, 151, "bad range: not 1 to 64 bytes, or not below 2^64")                     \
-    row(FAIL_NO_BYTE_ENABLED, 152, "no byte enabled: a store that writes no byte")                  \
+    row(FAIL_NO_BYTE_ENABLED, 152, "no byte enabled: a load or a store of no byte")                  \
     row(FAIL_NUMBER_IN_USE, 153, "number in use: an operation is open under it")                    \
     row(FAIL_NOT_OPEN, 154, "not open: no operation is open under the number")                      \
     row(FAIL_WRONG_LENGTH, 155, "wrong length: the load asks for another")                          \
@@ -619,16 +619,17 @@ uint32_t kroft_history_close(kroft_history *handle);
  * (kroft_history_forget) the response may be given again.
  */
 
-/* A load of `length` bytes from `address` on is requested. KROFT_FAIL_BAD_RANGE; KROFT_FAIL_NUMBER_IN_USE. */
-uint32_t kroft_history_load_request(kroft_history *handle, uint64_t number, uint64_t address, size_t length);
+/* A load is requested: of `length` bytes from `address` on, those whose enable is set. Bit k of `enables` is the enable of
+   byte k; bits beyond the last byte have no meaning. The answer has `length` bytes, and those that aren't enabled aren't
+   judged. KROFT_FAIL_BAD_RANGE; KROFT_FAIL_NO_BYTE_ENABLED; KROFT_FAIL_NUMBER_IN_USE. */
+uint32_t kroft_history_load_request(kroft_history *handle, uint64_t number, uint64_t address, size_t length, uint64_t enables);
 
 /* The load that is open under the number is answered with these bytes. KROFT_FAIL_NOT_OPEN; KROFT_FAIL_WRONG_LENGTH;
    KROFT_FAIL_WRONG_BYTE; KROFT_FAIL_UNDECIDED. */
 uint32_t kroft_history_load_response(kroft_history *handle, uint64_t number, const uint8_t *bytes, size_t nbytes);
 
-/* A store is requested: of these bytes from `address` on, those whose enable is set. Bit k of `enables` is the enable of
-   byte k; bits beyond the last byte have no meaning. KROFT_FAIL_BAD_RANGE; KROFT_FAIL_NO_BYTE_ENABLED;
-   KROFT_FAIL_NUMBER_IN_USE. */
+/* A store is requested: of these bytes from `address` on, those whose enable is set, as a load's. KROFT_FAIL_BAD_RANGE;
+   KROFT_FAIL_NO_BYTE_ENABLED; KROFT_FAIL_NUMBER_IN_USE. */
 uint32_t kroft_history_store_request(kroft_history *handle, uint64_t number, uint64_t address, const uint8_t *bytes,
                                      size_t nbytes, uint64_t enables);
 
@@ -712,6 +713,25 @@ typedef struct {
  */
 uint32_t kroft_history_unanswered(const kroft_history *handle, uint32_t kind, uint64_t n, kroft_history_operation *operation,
                                   uint64_t *count);
+
+/* What was counted of a history. A count stays at 2^64 - 1. */
+typedef struct {
+    uint64_t loads;        /* loads that were answered                                                           */
+    uint64_t choices;      /* of these, the ones of which some byte might have been another, by the law          */
+    uint64_t beside_store; /* and the ones that were open at once with a store to one of their bytes             */
+    uint64_t overtaking;   /* loads and stores that were answered before an older one with a byte in common      */
+} kroft_history_counts;
+
+/*
+ * Counts from here on, anew if it did so before: of each operation that is requested from now on, its answer. A bench
+ * whose loads never have a choice hardly tests the memory's order. From then on a load's answer takes longer: each of its
+ * bytes is asked about as by kroft_history_may_return, which by the atomic law is a search. A load has no choice at a byte
+ * of which that has no verdict. A store has the bytes that it enables. Returns KROFT_OK or KROFT_FAIL_CLOSED.
+ */
+uint32_t kroft_history_cover(kroft_history *handle);
+
+/* What was counted. Returns KROFT_OK; KROFT_ABSENT: nothing is counted, and nothing written; or KROFT_FAIL_CLOSED. */
+uint32_t kroft_history_coverage(const kroft_history *handle, kroft_history_counts *counts);
 
 /* ---- traffic ----------------------------------------------------------------------------------- */
 
@@ -805,6 +825,8 @@ KROFT_ASSERT(history_size, sizeof(kroft_history) == 16);
 KROFT_ASSERT(history_at, offsetof(kroft_history, at) == 8);
 KROFT_ASSERT(reason_size, sizeof(kroft_history_reason) == 56);
 KROFT_ASSERT(reason_reason, offsetof(kroft_history_reason, reason) == 48);
+KROFT_ASSERT(history_counts_size, sizeof(kroft_history_counts) == 32);
+KROFT_ASSERT(history_counts_overtaking, offsetof(kroft_history_counts, overtaking) == 24);
 KROFT_ASSERT(operation_size, sizeof(kroft_history_operation) == 24);
 KROFT_ASSERT(operation_address, offsetof(kroft_history_operation, address) == 8);
 KROFT_ASSERT(operation_length, offsetof(kroft_history_operation, length) == 16);
